@@ -1,0 +1,4 @@
+pub mod Lowest
+pub mod Lists
+pub mod Verdict
+pub mod Memory

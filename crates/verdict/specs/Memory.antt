@@ -1,0 +1,28 @@
+-- The work memory that a caller lends: how much is asked for, what is left in it, and marks in it. Definitions only.
+use Prim.Native.Nat.{ℕ}
+use mathlib.Core.Bool.{Bool, true, false, cond, not}
+use mathlib.Core.List.{List, [], _∷_, _++_}
+use lib.ListN.{getD, set, replicate, drop}
+use lib.Dec.{eqb}
+
+-- 16,384 bytes: the work memory's size, in one place
+abbrev pub workSize : ℕ
+workSize = 16384
+
+-- a memory with its first n bytes zero. The number is a parameter, so that no proof computes so many zeros
+unfoldable pub clearedTo : ℕ → List ℕ → List ℕ
+clearedTo n w = replicate n 0 ++ drop n w
+
+-- the byte of number k is marked
+unfoldable pub isMarked : List ℕ → ℕ → Bool
+isMarked w k = not (eqb (getD w k 0) 0)
+
+-- marking the numbers of a list one by one: none is marked already when its turn comes
+unfoldable pub fresh : List ℕ → List ℕ → Bool
+fresh [] w = true
+fresh (k ∷ ks) w = let rest = fresh ks (set w k 1) in cond (isMarked w k) false rest
+
+-- the memory when the list ends, or where a number was marked already
+unfoldable pub marked : List ℕ → List ℕ → List ℕ
+marked [] w = w
+marked (k ∷ ks) w = let rest = marked ks (set w k 1) in cond (isMarked w k) w rest

@@ -1,0 +1,60 @@
+// What every rule is said with: answers joined in order, and the work memory with its marks.
+ghost use mathlib.Core.Path.{_≡_};
+ghost use Prim.Native.Nat.{_≤_};
+ghost use lib.ListN.{length};
+ghost use Rattle.verdict.specs.Lowest.{allUnder};
+ghost use Rattle.verdict.specs.Verdict.{rule, _then_};
+ghost use Rattle.verdict.specs.Memory.{workSize, clearedTo, isMarked};
+
+// A number of document 01, 0 for acceptance, and a place.
+#[repr(C)]
+pub struct Answer {
+    pub number: u32,
+    pub place: u32,
+}
+
+// The size of the work memory.
+pub const WORK_SIZE: usize = 16384;
+
+// The verdict so far, and where it accepts that of one rule more.
+pub fn then_rule(so: Answer, number: u32, broken: bool, place: u32) -> Answer
+    ensures { λ r. ⌜ r ≡ (so then rule number broken place) ⌝ }
+{
+    if so.number != 0 {
+        return so;
+    }
+    if broken {
+        return Answer { number, place };
+    }
+    Answer {
+        number: 0,
+        place: 0,
+    }
+}
+
+// Makes the work memory zero; what lies past it stays.
+pub fn clear(work: &mut [u8])
+    requires { ⌜ workSize ≤ length (now work) ⌝ }
+    ensures { λ _. ⌜ now (work .exit) ≡ clearedTo workSize (now (work .entry)) ⌝ }
+{
+    let mut i = 0;
+    while i < WORK_SIZE {
+        work[i] = 0;
+        i += 1;
+    }
+}
+
+// Whether the first n bytes are all marked.
+pub fn all_marked(work: &[u8], n: usize) -> bool
+    requires { ⌜ n ≤ length (now work) ⌝ }
+    ensures { λ r. ⌜ r ≡ allUnder n (isMarked (now (work .entry))) ⌝ }
+{
+    let mut i = 0;
+    while i < n {
+        if work[i] == 0 {
+            return false;
+        }
+        i += 1;
+    }
+    true
+}

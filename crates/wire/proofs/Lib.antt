@@ -1,0 +1,4 @@
+pub mod Put
+pub mod Numbers
+pub mod Runs
+pub mod Signed
