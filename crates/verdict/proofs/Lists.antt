@@ -1,11 +1,11 @@
--- Laws of counts: `times`, `tally`, `once`, and of a test that is computed over a list. Assumes nothing.
+-- Laws of lists: a test that is computed over one, `map`, `times`, and of `tally`. Assumes nothing.
 use Prim.Native.Nat.{ℕ, zero, suc, _+_, _<_, _≤_}
 use native.Mathlib.Omega.{arith}
 use native.Mathlib.Nat.{eq-or-lt-of-le, le-of-suc-le-suc, not-suc-le-zero}
 use mathlib.Core.Path.{_≡_, refl, sym, ap, ap₂, _∙_}
 use mathlib.Core.Logic.{⊎-elim}
 use mathlib.Core.Bool.{Bool, true, false, _&&_}
-use mathlib.Core.List.{List, [], _∷_, _++_}
+use mathlib.Core.List.{List, [], _∷_, _++_, map}
 use lib.Dec.{T, eqb}
 use lib.ListN.{length, getD}
 use borrow.Author.Tests.{eq-eqb, ne-eqb}
@@ -23,6 +23,17 @@ every-at f d [] t k h = absurd (not-suc-le-zero h)
 every-at f d (x ∷ xs) t zero h = true-T (f x) (and-true (f x) (every f xs) (T-true (f x && every f xs) t) .0)
 every-at f d (x ∷ xs) t (suc k) h =
     every-at f d xs (true-T (every f xs) (and-true (f x) (every f xs) (T-true (f x && every f xs) t) .1)) k (le-of-suc-le-suc h)
+
+-- ---- a list made by a function, entry by entry
+
+pub map-at : {A B : Type 0} (f : A → B) (d : A) (e : B) (l : List A) (k : ℕ) → k < length l → getD (map f l) k e ≡ f (getD l k d)
+map-at f d e [] k h = absurd (not-suc-le-zero h)
+map-at f d e (x ∷ l) zero h = refl
+map-at f d e (x ∷ l) (suc k) h = map-at f d e l k (le-of-suc-le-suc h)
+
+pub map-same : {A B : Type 0} (f g : A → B) (d : A) (l : List A) → ((k : ℕ) → k < length l → f (getD l k d) ≡ g (getD l k d)) → map f l ≡ map g l
+map-same f g d [] h = refl
+map-same f g d (x ∷ l) h = rw (h 0 (omega arith), map-same f g d l (λ k m. h (suc k) (omega arith)))
 
 -- ---- bits
 

@@ -89,9 +89,8 @@ each-proper r n p f = rule-proper r (ltb (lowest n p) n) (f (lowest n p))
 pub then-proper : (a b : Answer) → Proper a → Proper b → Proper (a then b)
 then-proper a b p q = record { at-0 = λ z. let h = passed a b z in then-both (p .at-0 (h .0)) (q .at-0 (h .1)) }
 
--- one verdict is a list of one
-pub then-last : (a : Answer) → Proper a → (a then inOrder []) ≡ a
-unfolding inOrder
+-- nothing more to ask
+pub then-last : (a : Answer) → Proper a → (a then accepted) ≡ a
 then-last a p = decided (ℕ-discrete (a .number) 0) (λ z. then-next a accepted z ∙ sym (p .at-0 z)) (λ z. then-stop a z accepted)
 
 -- verdicts in order answer with the first broken rule ..

@@ -16,13 +16,10 @@ pub struct Answer {
 // The size of the work memory.
 pub const WORK_SIZE: usize = 16384;
 
-// The verdict so far, and where it accepts that of one rule more.
-pub fn then_rule(so: Answer, number: u32, broken: bool, place: u32) -> Answer
-    ensures { λ r. ⌜ r ≡ (so then rule number broken place) ⌝ }
+// One rule by itself.
+pub fn first_rule(number: u32, broken: bool, place: u32) -> Answer
+    ensures { λ r. ⌜ r ≡ rule number broken place ⌝ }
 {
-    if so.number != 0 {
-        return so;
-    }
     if broken {
         return Answer { number, place };
     }
@@ -30,6 +27,16 @@ pub fn then_rule(so: Answer, number: u32, broken: bool, place: u32) -> Answer
         number: 0,
         place: 0,
     }
+}
+
+// The verdict so far, and where it accepts that of one rule more.
+pub fn then_rule(so: Answer, number: u32, broken: bool, place: u32) -> Answer
+    ensures { λ r. ⌜ r ≡ (so then rule number broken place) ⌝ }
+{
+    if so.number != 0 {
+        return so;
+    }
+    first_rule(number, broken, place)
 }
 
 // Makes the work memory zero; what lies past it stays.

@@ -1,21 +1,15 @@
 -- `then_rule` is `then` with one rule more. Assumes nothing.
-use mathlib.Core.Path.{_≡_}
-use borrow.Author.Tests.{eq-eqb, ne-eqb}
-use Rattle.verdict.specs.Verdict.{rule, _then_}
+use mathlib.Core.Path.{_≡_, sym, _∙_}
+use borrow.Author.Needs.{needs}
+use Rattle.verdict.proofs.Verdict.{then-next, then-stop}
 use Rattle.verdict.proofs.then_rule.Statement.{statement}
 use Rattle.verdict.proofs.then_rule.Tie as tie
 
 returns : tie.Need-returns
-unfolding _then_
-returns c = rw (ne-eqb _ _ (c .if1 .taken))
+returns c = sym (then-stop _ (c .if1 .taken) _)
 
 returns-2 : tie.Need-returns-2
-unfolding _then_ rule
-returns-2 c = rw (eq-eqb _ _ (c .before .if1 .left), c .if2 .taken)
-
-returns-3 : tie.Need-returns-3
-unfolding _then_ rule
-returns-3 c = rw (eq-eqb _ _ (c .before .if1 .left), c .if2 .left)
+returns-2 c = c .first-rule .ensures ∙ sym (then-next _ _ (c .before .if1 .left))
 
 pub then-rule-spec : {M : Type 1} → statement M
-then-rule-spec = tie.close (tie.spec returns returns-2 returns-3)
+then-rule-spec = tie.close (tie.spec returns (search needs) returns-2)

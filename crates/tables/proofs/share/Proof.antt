@@ -1,0 +1,11 @@
+use Rattle.tables.specs.Tables.{shares}
+use borrow.Author.Needs.{needs}
+use Rattle.tables.proofs.share.Statement.{statement}
+use Rattle.tables.proofs.share.Tie as tie
+
+returns : tie.Need-returns
+unfolding shares
+returns c = rw (c .before .larger .ensures, c .smaller .ensures)
+
+pub share-spec : {M : Type 1} → statement M
+share-spec = tie.close (tie.spec (search needs) (search needs) returns)

@@ -1,0 +1,4 @@
+pub mod Tables
+pub mod Header
+pub mod Parts
+pub mod Fixed
