@@ -8,7 +8,7 @@ ghost use Rattle.verdict.specs.Verdict.{_then_};
 ghost use Rattle.wire.specs.Bytes.{u32At, putU32};
 ghost use Rattle.tables.specs.Tables.{tableAt, width, spanOf, outside, shares, InHeader, entryAt, sharesEarlier, outsideAt};
 ghost use Rattle.tables.specs.Header.{floorTables, magic, wrongLength, startsWrong, rule4, rules2to6, headerVerdict, RightHeader};
-ghost use Rattle.tables.specs.Parts.{partsOf, countOf, wordIndex, wordOf, wordPlace, withWord, withFloat};
+ghost use Rattle.tables.specs.Parts.{partsOf, countOf, wordIndex, wordOf, wordPlace, withWord, withFloat, corner, material};
 
 // A table by the positions of its count and its offset in the header, and the size of an entry.
 pub struct Table {
@@ -309,6 +309,22 @@ pub fn word_of(bytes: &[u8], k: usize, i: usize, e: usize) -> u32
 {
     let at = place_of(bytes, k, i, e);
     wire::u32_at(bytes, at)
+}
+
+// Corner e of face f.
+pub fn corner_of(bytes: &[u8], f: usize, e: usize) -> usize
+    requires { ⌜ RightHeader (now bytes) × (f < (partsOf (now bytes) .faces)) × (e < 3) ⌝ }
+    ensures { λ r. ⌜ (r ≡ corner (partsOf (now (bytes .entry))) f e) × (r < 4294967296) ⌝ }
+{
+    word_of(bytes, 1, f, e) as usize
+}
+
+// The material of face f.
+pub fn material_of(bytes: &[u8], f: usize) -> u32
+    requires { ⌜ RightHeader (now bytes) × (f < (partsOf (now bytes) .faces)) ⌝ }
+    ensures { λ r. ⌜ r ≡ material (partsOf (now (bytes .entry))) f ⌝ }
+{
+    word_of(bytes, 2, f, 0)
 }
 
 // The same word set: one word of the parts, and nothing else of the file.

@@ -6,9 +6,9 @@ use mathlib.Core.Path.{_≡_, refl, sym, ap, ap₂, _∙_}
 use mathlib.Core.Logic.{⊎-elim}
 use mathlib.Core.Bool.{Bool, true, false, _&&_}
 use mathlib.Core.List.{List, [], _∷_, _++_, map}
-use lib.Dec.{T, eqb}
+use lib.Dec.{T, eqb, ltb}
 use lib.ListN.{length, getD}
-use borrow.Author.Tests.{eq-eqb, ne-eqb}
+use borrow.Author.Tests.{eq-eqb, ne-eqb, ltb-true}
 use Rattle.verdict.specs.Lists.{bit, times, tally, Only}
 use Rattle.verdict.proofs.Bools.{clash, test, T-true, true-T, and-true}
 
@@ -78,6 +78,13 @@ none-cons m x l lt h k le = let e = h k le in let b = ap bit (ne-eqb x k (λ q. 
 pub none-append : (m : ℕ) (a b : List ℕ) → NoneFrom m a → NoneFrom m b → NoneFrom m (a ++ b)
 unfolding NoneFrom
 none-append m a b ha hb k le = let e = ha k le in let f = hb k le in let g = times-append k a b in omega arith
+
+-- by a computed test over the list
+pub none-every : (m : ℕ) (l : List ℕ) → T (every (λ x. ltb x m) l) → NoneFrom m l
+none-every m [] t = none-nil m
+none-every m (x ∷ l) t =
+    let h = and-true (ltb x m) (every (λ y. ltb y m) l) (T-true _ t) in
+    none-cons m x l (ltb-true x m (h .0)) (none-every m l (true-T _ (h .1)))
 
 -- ---- how many numbers pass a test
 

@@ -13,7 +13,7 @@ use borrow.Author.Tests.{eq-eqb, ne-eqb, ltb-false, le-ltb, lt-ltb}
 use Rattle.verdict.specs.Lowest.{lowest}
 use Rattle.verdict.specs.Verdict.{accepted, refused, rule, ruleOfEach, _then_, inOrder, FirstBroken}
 use Rattle.verdict.specs.declared.Answer.{Answer}
-use Rattle.verdict.proofs.Bools.{decided}
+use Rattle.verdict.proofs.Bools.{decided, test}
 use Rattle.verdict.proofs.Lowest.{lowest-is, lowest-all, lowest-same}
 
 -- a verdict that accepts, and one that does not
@@ -70,6 +70,20 @@ each-passes r n p f h = rw (lowest-all p n h, le-ltb n n (omega arith)) (met r (
 pub each-same : (r n : ℕ) (p q : ℕ → Bool) (f : ℕ → ℕ) → ((k : ℕ) → k < n → p k ≡ q k) → ruleOfEach r n p f ≡ ruleOfEach r n q f
 unfolding ruleOfEach
 each-same r n p q f h = rw (lowest-same n p q h)
+
+-- of each: by where a loop stopped
+pub each-hit : (r n : ℕ) (p : ℕ → Bool) (f : ℕ → ℕ) (j : ℕ) → j ≡ lowest n p → j < n → rule r true (f j) ≡ ruleOfEach r n p f
+unfolding ruleOfEach
+each-hit r n p f j e l = rw (← e, lt-ltb j n l)
+
+pub each-none : (r n : ℕ) (p : ℕ → Bool) (f : ℕ → ℕ) (j : ℕ) → j ≡ lowest n p → n ≤ j → rule r false 0 ≡ ruleOfEach r n p f
+unfolding ruleOfEach rule
+each-none r n p f j e l = rw (← e, le-ltb j n l)
+
+-- of each: the number does not depend on the place
+pub each-number : (r n : ℕ) (p : ℕ → Bool) (f g : ℕ → ℕ) → ruleOfEach r n p f .number ≡ ruleOfEach r n p g .number
+unfolding ruleOfEach rule
+each-number r n p f g = test (ltb (lowest n p) n) (λ e. rw e) (λ e. rw e)
 
 -- ---- "the first broken rule in order"
 

@@ -1,0 +1,12 @@
+pub mod Fractions
+pub mod Grid
+pub mod Order
+pub mod Patterns
+pub mod Finite
+pub mod Nudges
+pub mod Answers
+pub mod Triangle
+pub mod Boxes
+pub mod Crosses
+pub mod Weights
+pub mod Corners

@@ -1,0 +1,4 @@
+pub mod Wild
+pub mod Corners
+pub mod Walkable
+pub mod Plain
