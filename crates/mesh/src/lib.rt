@@ -14,8 +14,29 @@ ghost use Rattle.mesh.specs.Mesh.{rules7to10};
 
 // Which of the materials 0 to 22 are walkable.
 const WALKABLE: [bool; 23] = [
-    false, true, false, true, true, true, true, false, false, true, true, true, true, true, true,
-    false, true, false, true, false, true, true, true,
+    false,
+    true,
+    false,
+    true,
+    true,
+    true,
+    true,
+    false,
+    false,
+    true,
+    true,
+    true,
+    true,
+    true,
+    true,
+    false,
+    true,
+    false,
+    true,
+    false,
+    true,
+    true,
+    true,
 ];
 
 fn is_wild(bits: u32) -> bool
