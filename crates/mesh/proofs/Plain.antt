@@ -5,31 +5,47 @@ use Prim.Native.Nat.{ℕ, zero, suc, _+_, _*_, _/_, _%_, _≤_, _<_}
 use native.Mathlib.Nat.{mul-add-div-right, mul-add-mod-self-right, div-eq-of-lt, mod-eq-of-lt, mul-le-mul-right, suc-mul, add-zero}
 use native.Mathlib.Omega.{arith}
 use native.Mathlib.Decide.{decLt}
-use lib.Dec.{leb, eqb}
+use lib.Dec.{leb, eqb, ltb}
 use lib.ListN.{getD}
-use lib.Ieee.{binary32, ofBits}
-use borrow.Author.Tests.{leb-false, eqb-false, lt-leb, ne-eqb, ltb-false, le-ltb, not-false}
+use lib.Ieee.{Float, nan, inf, fin, binary32, ofBits}
+use borrow.Author.Tests.{leb-false, eqb-false, lt-leb, ne-eqb, ltb-false, ltb-true, lt-ltb, le-ltb, not-false}
+use Rattle.verdict.specs.Lists.{times, tally}
 use Rattle.verdict.specs.Verdict.{accepted, ruleOfEach}
-use Rattle.verdict.proofs.Bools.{clash, test, decided, or-false, false-or, not-of-true}
+use Rattle.verdict.proofs.Bools.{clash, test, same-test, decided, or-false, false-or, not-of-true}
 use Rattle.verdict.proofs.Lowest.{none-under, under-none}
+use Rattle.verdict.proofs.Lists.{tally-same}
 use Rattle.verdict.proofs.Verdict.{passed, then-both, each-met, each-passes}
 use Rattle.grid.specs.Grid.{finite}
 use Rattle.tables.specs.Parts.{Parts, countOf, wordOf, wordIndex, corner, material}
 use Rattle.mesh.specs.Floats.{wild, wildHead, wildIn, rule7In, rule7}
-use Rattle.mesh.specs.Faces.{wrongCorner, wrongCorners, walkable, strange, misplaced, rule8, rule9, rule10}
-use Rattle.mesh.specs.Mesh.{rules7to10, IsFinite, Finite, Cornered, Painted, Meshed}
+use Rattle.mesh.specs.Faces.{wrongCorner, wrongCorners, walkables, walkable, strange, misplaced, rule8, rule9, rule10}
+use Rattle.mesh.specs.Mesh.{rules7to10, IsFinite, Walkable, Finite, Cornered, Painted, Meshed}
 use Rattle.mesh.proofs.Wild.{split-in}
 use Rattle.mesh.proofs.Walkable.{misplaced-under, misplaced-past}
 
 -- ---- 7
 
+-- the test is the statement
+pub test-finite : (w : ℕ) → finite (ofBits binary32 w) ≡ true → IsFinite w
+unfolding finite
+test-finite w e = by (ofBits binary32 w) refl e
+  where
+    by : (x : Float) → ofBits binary32 w ≡ x → finite x ≡ true → IsFinite w
+    by nan q t = clash refl (sym t)
+    by (inf s) q t = clash refl (sym t)
+    by (fin s m e) q t = record { sign = s; digits = m; exponent = e; value = q }
+
+pub finite-test : (w : ℕ) → IsFinite w → finite (ofBits binary32 w) ≡ true
+unfolding finite
+finite-test w f = rw (f .value) refl
+
 is-finite : (w : ℕ) → wild w ≡ false → IsFinite w
 unfolding wild
-is-finite w e = not-false (finite (ofBits binary32 w)) e
+is-finite w e = test-finite w (not-false (finite (ofBits binary32 w)) e)
 
 finite-is : (w : ℕ) → IsFinite w → wild w ≡ false
 unfolding wild
-finite-is w e = not-of-true (finite (ofBits binary32 w)) e
+finite-is w f = not-of-true (finite (ofBits binary32 w)) (finite-test w f)
 
 -- float e of entry i is float i * per + e of its table
 entry-of : (i e per : ℕ) → e < per → ((i * per + e) / per ≡ i) × ((i * per + e) % per ≡ e)
@@ -123,6 +139,14 @@ cornered-all p c =
 
 -- ---- 9 and 10
 
+pub test-walkable : (m : ℕ) → walkable m ≡ true → Walkable m
+unfolding walkable
+test-walkable m e = ltb-true 0 (times m walkables) e
+
+pub walkable-test : (m : ℕ) → Walkable m → walkable m ≡ true
+unfolding walkable
+walkable-test m l = lt-ltb 0 (times m walkables) l
+
 module _ (p : Parts) where
   known-of : rule9 p .number ≡ 0 → (f : ℕ) → f < p .faces → material p f ≤ 22
   unfolding rule9 strange
@@ -139,11 +163,12 @@ module _ (p : Parts) where
   all-painted : p .adjacency ≤ p .faces → rule9 p .number ≡ 0 → rule10 p .number ≡ 0 → Painted p
   all-painted few z y = record { known = known-of z; under = under; over = over }
     where
-      under : (f : ℕ) → f < p .faces → walkable (material p f) ≡ true → f < p .adjacency
-      under f l w = decided (decLt f (p .adjacency)) (λ m. m) (λ m. clash w (misplaced-past p f (omega arith) ∙ placed y f l))
+      under : (f : ℕ) → f < p .faces → Walkable (material p f) → f < p .adjacency
+      under f l w =
+          decided (decLt f (p .adjacency)) (λ m. m) (λ m. clash (walkable-test (material p f) w) (misplaced-past p f (omega arith) ∙ placed y f l))
 
-      over : (f : ℕ) → f < p .adjacency → walkable (material p f) ≡ true
-      over f l = not-false (walkable (material p f)) (misplaced-under p f l ∙ placed y f (omega arith))
+      over : (f : ℕ) → f < p .adjacency → Walkable (material p f)
+      over f l = test-walkable (material p f) (not-false (walkable (material p f)) (misplaced-under p f l ∙ placed y f (omega arith)))
 
   painted-all : Painted p → (rule9 p ≡ accepted) × (rule10 p ≡ accepted)
   unfolding rule10
@@ -151,8 +176,29 @@ module _ (p : Parts) where
     where
       right : (f : ℕ) → f < p .faces → misplaced p f ≡ false
       right f l =
-          decided (decLt f (p .adjacency)) (λ m. sym (misplaced-under p f m) ∙ not-of-true _ (q .over f m))
-          (λ m. sym (misplaced-past p f (omega arith)) ∙ test (walkable (material p f)) (λ w. absurd (m (q .under f l w))) (λ w. w))
+          decided (decLt f (p .adjacency)) (λ m. sym (misplaced-under p f m) ∙ not-of-true _ (walkable-test (material p f) (q .over f m)))
+          (λ m. sym (misplaced-past p f (omega arith)) ∙ test (walkable (material p f)) (λ w. absurd (m (q .under f l (test-walkable (material p f) w)))) (λ w. w))
+
+-- so A is the number of walkable faces
+tally-under : (n a : ℕ) → a ≤ n → tally n (λ f. ltb f a) ≡ a
+unfolding tally
+tally-under zero a l = omega arith
+tally-under (suc n) a l =
+    decided (decLt n a)
+    (λ m. let q : a ≡ suc n = omega arith in rw (lt-ltb n a m) (omega (arith, all-under n a (omega arith))))
+    (λ m. rw (le-ltb n a (omega arith)) (omega (arith, tally-under n a (omega arith))))
+  where
+    all-under : (n a : ℕ) → n ≤ a → tally n (λ f. ltb f a) ≡ n
+    all-under zero a l = refl
+    all-under (suc n) a l = rw (lt-ltb n a (omega arith)) (omega (arith, all-under n a (omega arith)))
+
+pub walkable-faces : (p : Parts) → p .adjacency ≤ p .faces → Painted p → tally (p .faces) (λ f. walkable (material p f)) ≡ p .adjacency
+walkable-faces p few q = tally-same (p .faces) _ (λ f. ltb f (p .adjacency)) same ∙ tally-under (p .faces) (p .adjacency) few
+  where
+    same : (f : ℕ) → f < p .faces → walkable (material p f) ≡ ltb f (p .adjacency)
+    same f l =
+        same-test _ _ (λ w. lt-ltb f (p .adjacency) (q .under f l (test-walkable (material p f) w)))
+        (λ m. walkable-test (material p f) (q .over f (ltb-true f (p .adjacency) m)))
 
 -- ---- the four
 

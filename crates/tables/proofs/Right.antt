@@ -1,6 +1,7 @@
 -- When a header is right: rules 1 to 6 as plain facts, both ways; the first broken of them in order; and the few bytes that they
 -- depend on. Assumes nothing.
 use mathlib.Core.Path.{_≡_, refl, sym, ap, _∙_}
+use mathlib.Core.Logic.{_≢_}
 use mathlib.Core.Bool.{Bool, true, false, not, _||_}
 use mathlib.Core.List.{List, [], _∷_}
 use Prim.Native.Nat.{ℕ, _+_, _≤_, _<_}
@@ -10,28 +11,20 @@ use lib.ListN.{length, getD}
 use borrow.Author.Tests.{lt-ltb, le-ltb, eq-eqb, ltb-false, eqb-true, not-false}
 use Rattle.verdict.specs.Verdict.{rule, ruleOfEach, accepted, refused, _then_, inOrder, FirstBroken}
 use Rattle.verdict.specs.declared.Answer.{Answer}
-use Rattle.verdict.proofs.Bools.{or-false, not-of-true}
-use Rattle.verdict.proofs.Lowest.{lowest-same, any-same}
+use Rattle.verdict.proofs.Bools.{test, or-false, not-of-true}
+use Rattle.verdict.proofs.Lowest.{none-under, under-none, any-same}
 use Rattle.verdict.proofs.Verdict.{passed, unbroken, met, each-met, each-passes, each-same, then-next, then-stop, then-assoc, then-both, then-last, Proper, each-proper, first-broken, first-only}
 use Rattle.wire.specs.Bytes.{u32At}
 use Rattle.wire.proofs.Numbers.{u32-same}
-use Rattle.tables.specs.Tables.{tableAt, entryAt, spanOf, outsideAt, shares, sharesEarlier, rule5, rule6}
+use Rattle.tables.specs.Tables.{tableAt, entryAt, spanOf, In, outsideAt, shares, sharesEarlier, rule5, rule6}
 use Rattle.tables.specs.Header.{magic, floorTables, wrongLength, startsWrong, differs, limit, rule1, rule2, rule3, rule4, rules2to6, headerVerdict, headerRules, RightHeader}
-use Rattle.tables.proofs.Spans.{entry-inside}
+use Rattle.tables.specs.Plain.{Counts, SoundHeader}
+use Rattle.tables.proofs.Spans.{inside-of, inside-from, meet-of, entry-inside, tables-apart}
 use Rattle.tables.proofs.Floor.{floor-in-header}
 
 -- ---- the rules as facts
 
--- the six counts
-pub record Counts (b : List ℕ) : Type 0 where
-  pub vertices : u32At b 72 ≤ 4096
-  pub faces : u32At b 80 ≤ 4096
-  pub nodes : u32At b 100 ≤ 8191
-  pub adjacency : u32At b 112 ≤ u32At b 80
-  pub edges : u32At b 120 ≤ 12288
-  pub perimeters : u32At b 128 ≤ 12288
-
--- all that rules 1 to 6 ask
+-- all that rules 1 to 6 ask, as code goes by it
 pub record Met (b : List ℕ) : Type 0 where
   pub long : 136 ≤ length b
   pub short : length b ≤ 1048576
@@ -136,6 +129,60 @@ rule6-met b z = passed _ _ (passed _ _ z .1) .1
 pub floor-entry : (b : List ℕ) → RightHeader b → (k : ℕ) → k < 9 → (i : ℕ) → i < u32At b (tableAt floorTables k .count)
     → (136 ≤ entryAt b (tableAt floorTables k) i) × (entryAt b (tableAt floorTables k) i + tableAt floorTables k .size ≤ length b)
 floor-entry b z k l i m = entry-inside 9 floorTables b 136 (rule5-met b z) k l i m (floor-in-header k l .size-some)
+
+-- ---- the rules as plain statements, both ways
+
+same-word : (b : List ℕ) → startsWrong magic b ≡ false → (i : ℕ) → i < 8 → getD b i 0 ≡ getD magic i 0
+unfolding startsWrong differs
+same-word b e i l = eqb-true _ _ (not-false (eqb (getD b i 0) (getD magic i 0)) (none-under (differs magic b) 8 e i l))
+
+word-same : (b : List ℕ) → ((i : ℕ) → i < 8 → getD b i 0 ≡ getD magic i 0) → startsWrong magic b ≡ false
+unfolding startsWrong differs
+word-same b h = under-none (differs magic b) 8 (λ i l. not-of-true (eqb (getD b i 0) (getD magic i 0)) (eq-eqb _ _ (h i l)))
+
+module _ (b : List ℕ) where
+  all-inside : (k : ℕ) → outsideAt 136 floorTables b k ≡ false → (i : ℕ) → In (spanOf b (tableAt floorTables k)) i → (136 ≤ i) × (i < length b)
+  unfolding outsideAt
+  all-inside k e i p = let h = inside-of 136 (length b) (spanOf b (tableAt floorTables k)) e (omega (arith, p .from, p .to)) in omega (arith, p .from, p .to)
+
+  inside-all : (k : ℕ) → ((i : ℕ) → In (spanOf b (tableAt floorTables k)) i → (136 ≤ i) × (i < length b)) → outsideAt 136 floorTables b k ≡ false
+  unfolding outsideAt
+  inside-all k h = inside-from (length b) (spanOf b (tableAt floorTables k)) h
+
+  apart-all : ((j k : ℕ) → j < 9 → k < 9 → j ≢ k → (i : ℕ) → In (spanOf b (tableAt floorTables j)) i → In (spanOf b (tableAt floorTables k)) i → ⊥)
+      → (k : ℕ) → k < 9 → sharesEarlier floorTables b k ≡ false
+  unfolding sharesEarlier
+  apart-all h k l =
+      under-none (λ j. shares (spanOf b (tableAt floorTables k)) (spanOf b (tableAt floorTables j))) k
+      (λ j m. test (shares (spanOf b (tableAt floorTables k)) (spanOf b (tableAt floorTables j)))
+      (λ e. let both = meet-of (spanOf b (tableAt floorTables k)) (spanOf b (tableAt floorTables j)) e in
+          absurd (h j k (omega arith) l (λ (q : j ≡ k). omega arith) _ (both .1) (both .0)))
+      (λ e. e))
+
+pub header-sound : (b : List ℕ) → RightHeader b → SoundHeader b
+header-sound b z =
+    let m = header-met b z in
+    record {
+      long = m .long;
+      short = m .short;
+      word = same-word b (m .word);
+      world = m .world;
+      counts = m .counts;
+      inside = λ k l. all-inside b k (m .inside k l);
+      apart = tables-apart 9 floorTables b (rule6-met b z);
+    }
+
+pub sound-header : (b : List ℕ) → SoundHeader b → headerVerdict b ≡ accepted
+sound-header b s =
+    met-header b (record {
+      long = s .long;
+      short = s .short;
+      word = word-same b (s .word);
+      world = s .world;
+      counts = s .counts;
+      inside = λ k l. inside-all b k (s .inside k l);
+      apart = apart-all b (s .apart);
+    })
 
 -- ---- the verdict is the first broken rule in order
 

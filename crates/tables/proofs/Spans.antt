@@ -3,7 +3,7 @@ use mathlib.Core.Path.{_≡_, refl}
 use mathlib.Core.Logic.{_≢_}
 use mathlib.Core.Bool.{Bool, true, false, _&&_, _||_}
 use mathlib.Core.List.{List}
-use Prim.Native.Nat.{ℕ, suc, _+_, _*_, _<_, _≤_, min, max}
+use Prim.Native.Nat.{ℕ, suc, _+_, _-_, _*_, _<_, _≤_, min, max}
 use native.Mathlib.Nat.{mul-le-mul-right, suc-mul}
 use native.Mathlib.Omega.{arith}
 use native.Mathlib.Decide.{decLt}
@@ -30,6 +30,17 @@ inside-of head len s h l =
 pub inside-is : (head len : ℕ) (s : Span) → head ≤ s .start → s .stop ≤ len → outside head len s ≡ false
 unfolding outside
 inside-is head len s h l = rw (le-ltb (s .start) head h, le-ltb len (s .stop) l) (and-no (ltb (s .start) (s .stop)))
+
+-- and by its bytes
+pub inside-from : (len : ℕ) (s : Span) → ((i : ℕ) → In s i → (136 ≤ i) × (i < len)) → outside 136 len s ≡ false
+unfolding outside
+inside-from len s h =
+    decided (decLt (s .start) (s .stop))
+    (λ l.
+    let first = h (s .start) (record { from = omega arith; to = l }) in
+    let last = h (s .stop - 1) (record { from = omega arith; to = omega arith }) in
+    inside-is 136 len s (first .0) (omega arith))
+    (λ l. rw (le-ltb (s .start) (s .stop) (omega arith)))
 
 -- `shares` is "some byte lies in both"
 pub apart-of : (s u : Span) → shares s u ≡ false → (i : ℕ) → In s i → In u i → ⊥
