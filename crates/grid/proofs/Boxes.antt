@@ -5,7 +5,7 @@ use lib.Ieee.{Float, le}
 use Rattle.verdict.proofs.Bools.{and-true, true-and}
 use Rattle.grid.specs.declared.Box.{Box}
 use Rattle.grid.specs.Grid.{scaled, gridFloat}
-use Rattle.grid.specs.Plain.{OnGrid, HoldsBox}
+use Rattle.grid.specs.Plain.{OnGrid, HoldsBox, HoldsPoint}
 use Rattle.grid.specs.Box.{between, noneOver, holdsPoint, holdsBox, holdsXY}
 use Rattle.grid.proofs.Order.{le-trans, le-scaled, scaled-le}
 
@@ -57,8 +57,22 @@ three p q r h =
     let v = and-true p q (u .0) in
     (v .0, v .1, u .1)
 
+-- the tests are the plain propositions
+module _ (b : Box) (x y z : Float) where
+  pub point-held : holdsPoint b x y z ≡ true → HoldsPoint b x y z
+  unfolding holdsPoint between
+  point-held h =
+      let t = three _ _ _ h in
+      let u = and-true _ _ (t .0) in
+      let v = and-true _ _ (t .1) in
+      let w = and-true _ _ (t .2) in
+      record { least-x = u .0; least-y = v .0; least-z = w .0; greatest-x = u .1; greatest-y = v .1; greatest-z = w .1 }
+
+  pub held-point : HoldsPoint b x y z → holdsPoint b x y z ≡ true
+  unfolding holdsPoint between
+  held-point i = rw (i .least-x, i .least-y, i .least-z, i .greatest-x, i .greatest-y, i .greatest-z)
+
 module _ (b c : Box) where
-  -- the test is the plain proposition
   pub inner : holdsBox b c ≡ true → HoldsBox b c
   unfolding holdsBox noneOver
   inner h =

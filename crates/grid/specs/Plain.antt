@@ -30,3 +30,12 @@ pub record HoldsBox (b c : Box) : Type 0 where
   pub greatest-x : le (c .«greatest_x») (b .«greatest_x») ≡ true
   pub greatest-y : le (c .«greatest_y») (b .«greatest_y») ≡ true
   pub greatest-z : le (c .«greatest_z») (b .«greatest_z») ≡ true
+
+-- a box holds a point: each coordinate lies between the box's ends, ends included
+pub record HoldsPoint (b : Box) (x y z : Float) : Type 0 where
+  pub least-x : le (b .«least_x») x ≡ true
+  pub least-y : le (b .«least_y») y ≡ true
+  pub least-z : le (b .«least_z») z ≡ true
+  pub greatest-x : le x (b .«greatest_x») ≡ true
+  pub greatest-y : le y (b .«greatest_y») ≡ true
+  pub greatest-z : le z (b .«greatest_z») ≡ true

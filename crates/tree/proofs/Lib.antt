@@ -1,0 +1,12 @@
+pub mod Rule12
+pub mod Shape
+pub mod Deep
+pub mod Faces
+pub mod Paths
+pub mod Rule13
+pub mod Theorem
+pub mod Held
+pub mod Examples
+pub mod Sight
+pub mod Count
+pub mod Least

@@ -1,0 +1,62 @@
+-- `covers`: clear, mark, look and clear; then the same answer and memory by both ways out. Assumes nothing.
+use borrow.Author.Needs.{needs}
+use Prim.Native.Nat.{ℕ}
+use native.Mathlib.Omega.{arith}
+use mathlib.Core.Path.{ap, _∙_}
+use mathlib.Core.List.{List}
+use denote.Ref.{now}
+use Rattle.verdict.specs.Lowest.{allUnder}
+use Rattle.verdict.specs.Memory.{isMarked}
+use Rattle.verdict.proofs.Lists.{NoneFrom}
+use Rattle.tables.specs.Parts.{Parts, partsOf}
+use Rattle.tree.specs.Nodes.{nodesOf, faceOf}
+use Rattle.tree.specs.Tree.{leafFaces}
+use Rattle.tree.proofs.Rule13.{Half, leaves-within, both-first, both-none, half-memory, half-once}
+use Rattle.tree.proofs.covers.Statement.{statement}
+use Rattle.tree.proofs.covers.Tie as tie
+
+-- seen from the last step: the start, the floor's parts, what is marked, and the two calls
+abbrev start : tie.After-slice-known4 → tie.Start
+start c = c .before .before .before .before .before .before .before .before .before .before .before .before .before .before .before
+
+abbrev parts : tie.After-slice-known4 → Parts
+parts c = partsOf (now (start c .args .bytes))
+
+abbrev list : tie.After-slice-known4 → List ℕ
+list c = leafFaces (nodesOf (parts c)) (faceOf (parts c)) (parts c .nodes)
+
+inside : (c : tie.After-slice-known4) → NoneFrom (parts c .faces) (list c)
+inside c = leaves-within (parts c) (start c .pre .0 .1)
+
+half : (c : tie.After-slice-known4)
+    → Half (list c) (parts c .faces) (now (start c .args .work)) (c .before .before .look-and-clear .last .0) (c .before .before .before .before .before .before .mark-faces .result) (c .before .before .look-and-clear .result)
+half c =
+    let clear = c .before .before .before .before .before .before .before .before .before .before .clear in
+    let mark = c .before .before .before .before .before .before .mark-faces in
+    let look = c .before .before .look-and-clear in
+    let count = c .before .before .before .before .before .before .before .before .before .before .before .before .face-count .ensures in
+    record {
+      w₁ = clear .last .0;
+      w₂ = mark .last .1 .0;
+      few = omega (arith, count);
+      room = start c .pre .1;
+      cleared = clear .ensures;
+      walked = mark .ensures .0;
+      marks = mark .ensures .1;
+      full = look .ensures .0 ∙ ap (λ (n : ℕ). allUnder n (isMarked (mark .last .1 .0))) (count .0);
+      again = look .ensures .1;
+    }
+
+returns : tie.Need-returns
+returns c =
+    let d = c .before in
+    (both-first _ _ (c .if1 .taken) ∙ half-once _ _ _ _ _ _ (inside d) (half d), half-memory _ _ _ _ _ _ (inside d) (half d))
+
+returns-2 : tie.Need-returns-2
+returns-2 c =
+    let d = c .before in
+    (both-none _ (d .before .before .look-and-clear .result) (c .if1 .left) ∙ half-once _ _ _ _ _ _ (inside d) (half d), half-memory _ _ _ _ _ _ (inside d) (half d))
+
+pub covers-spec : {M : Type 1} → statement M
+covers-spec =
+    tie.close (tie.spec (search needs) (search needs) (λ c κs. search needs) (search needs) (search needs) returns (search needs) returns-2)

@@ -1,0 +1,15 @@
+-- The count of faces is that of the parts, and rule 4 bounds it. Assumes nothing.
+use native.Mathlib.Omega.{arith}
+use Rattle.tables.proofs.Right.{header-met}
+use Rattle.tables.proofs.Reading.{sized-of}
+use Rattle.tree.proofs.face_count.Statement.{statement}
+use Rattle.tree.proofs.face_count.Tie as tie
+
+count-of-requires : tie.Need-count-of-requires
+count-of-requires c κs = (header-met _ (c .before .pre) .long, omega arith)
+
+returns : tie.Need-returns
+returns c = (c .count-of .ensures .0, omega (arith, c .count-of .ensures .0, sized-of _ (c .before .before .pre) .faces))
+
+pub face-count-spec : {M : Type 1} → statement M
+face-count-spec = tie.close (tie.spec count-of-requires returns)

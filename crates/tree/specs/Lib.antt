@@ -1,0 +1,6 @@
+pub mod Nodes
+pub mod Tree
+pub mod Trail
+pub mod Boxes
+pub mod Plain
+pub mod Visits
