@@ -156,7 +156,7 @@ module _ (b : List ℕ) where
       under-none (λ j. shares (spanOf b (tableAt floorTables k)) (spanOf b (tableAt floorTables j))) k
       (λ j m. test (shares (spanOf b (tableAt floorTables k)) (spanOf b (tableAt floorTables j)))
       (λ e. let both = meet-of (spanOf b (tableAt floorTables k)) (spanOf b (tableAt floorTables j)) e in
-          absurd (h j k (omega arith) l (λ (q : j ≡ k). omega arith) _ (both .1) (both .0)))
+      absurd (h j k (omega arith) l (λ (q : j ≡ k). omega arith) _ (both .1) (both .0)))
       (λ e. e))
 
 pub header-sound : (b : List ℕ) → RightHeader b → SoundHeader b

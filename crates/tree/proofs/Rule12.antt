@@ -12,7 +12,7 @@ use Rattle.verdict.proofs.Bools.{clash, test, decided, and-true}
 use Rattle.verdict.proofs.Verdict.{passed, unbroken, met, then-both, each-met, each-passes}
 use Rattle.tables.specs.Parts.{Parts}
 use Rattle.tree.specs.Nodes.{none32, faceOf, planeOf, leftOf, rightOf, nodesOf, isPlane, isLeaf, isInner, neither, rule11, rule12, rules11to12}
-use Rattle.tree.specs.Plain.{Plane, Leaf, Inner, Closed}
+use Rattle.tree.specs.Plain.{Plane, Leaf, Inner, Closed, SoundNodes}
 
 -- ---- the plane
 
@@ -139,18 +139,13 @@ closed p few z = kinds-closed p few (rule12-met p z)
 
 -- ---- both rules: all that they ask
 
-pub record NodesMet (p : Parts) : Type 0 where
-  pub count : p .nodes ≡ 2 * p .faces - 1
-  pub root : p .root ≡ 0
-  pub kinds : (n : ℕ) → n < p .nodes → Leaf p n ⊎ Inner p n
-
-pub nodes-met : (p : Parts) → rules11to12 p .number ≡ 0 → NodesMet p
+pub nodes-met : (p : Parts) → rules11to12 p .number ≡ 0 → SoundNodes p
 unfolding rules11to12
 nodes-met p z =
     let h = passed (rule11 p) (rule12 p) z in
     let one = rule11-met p (h .0) in
     record { count = one .0; root = one .1; kinds = rule12-met p (h .1) }
 
-pub met-nodes : (p : Parts) → NodesMet p → rules11to12 p ≡ accepted
+pub met-nodes : (p : Parts) → SoundNodes p → rules11to12 p ≡ accepted
 unfolding rules11to12
 met-nodes p h = then-both (met-rule11 p (h .count) (h .root)) (met-rule12 p (h .kinds))

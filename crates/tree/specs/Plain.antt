@@ -1,6 +1,6 @@
 -- Rules 11 to 14 in the words of the paper, as plain statements: leaf and inner node; exactly one path to each node, of at most 64
 -- steps, and exactly one leaf for each face; boxes that hold. No search and no test in them.
-use Prim.Native.Nat.{ℕ, _<_, _≤_}
+use Prim.Native.Nat.{ℕ, _*_, _-_, _<_, _≤_}
 use mathlib.Core.Path.{_≡_}
 use mathlib.Core.Logic.{_⊎_}
 use mathlib.Core.Bool.{Bool, true, false, cond}
@@ -29,6 +29,12 @@ pub record Inner (p : Parts) (n : ℕ) : Type 0 where
   pub plane : Plane (planeOf p n)
   pub left : leftOf p n < p .nodes
   pub right : rightOf p n < p .nodes
+
+-- 11 and 12: 2F-1 nodes (none for none), the root the first, each node a leaf or inner
+pub record SoundNodes (p : Parts) : Type 0 where
+  pub count : p .nodes ≡ 2 * p .faces - 1
+  pub root : p .root ≡ 0
+  pub kinds : (n : ℕ) → n < p .nodes → Leaf p n ⊎ Inner p n
 
 -- what rule 12 has shown when rule 13 is asked: children are nodes, leaves name faces
 pub record Closed (p : Parts) : Type 0 where

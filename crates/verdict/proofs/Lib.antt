@@ -5,3 +5,4 @@ pub mod Lists
 pub mod Marks
 pub mod Once
 pub mod Memory
+pub mod Output

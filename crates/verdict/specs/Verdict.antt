@@ -29,6 +29,10 @@ ruleOfEach number n broken place = rule number (ltb (lowest n broken) n) (place 
 unfoldable pub _then_ : Answer → Answer → Answer
 a then b = cond (eqb (a .number) 0) b a
 
+-- a number that an answer gives beside its verdict: 0 on refusal
+abbrev pub ifAccepted : Answer → ℕ → ℕ
+ifAccepted a n = cond (eqb (a .number) 0) n 0
+
 -- the verdicts of a list, one after another
 unfoldable pub inOrder : List Answer → Answer
 inOrder [] = accepted

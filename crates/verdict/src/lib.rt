@@ -13,6 +13,14 @@ pub struct Answer {
     pub place: u32,
 }
 
+// What a rewriting answers: a number, a place, and how many bytes it wrote.
+#[repr(C)]
+pub struct Form {
+    pub number: u32,
+    pub place: u32,
+    pub length: u32,
+}
+
 // The size of the work memory.
 pub const WORK_SIZE: usize = 16384;
 

@@ -6,8 +6,8 @@ use Prim.Native.Nat.{ℕ, zero, suc, _+_, _≤_, _<_}
 use mathlib.Core.List.{List, [], _∷_, _++_}
 use native.Mathlib.Omega.{arith}
 use native.Mathlib.Nat.{suc-add, add-suc, add-zero}
-use lib.ListN.{length, getD, set, length-set}
-use lib.Seq.{set-set, set-comm, getD-set-same, getD-set-other}
+use lib.ListN.{length, getD, set, length-set, take, drop}
+use lib.Seq.{set-set, set-comm, getD-set-same, getD-set-other, sets, sets-eq}
 use Rattle.wire.specs.Bytes.{put, Bytes}
 
 pub length-put : (vs b : List ℕ) (at : ℕ) → length (put b at vs) ≡ length b
@@ -70,6 +70,15 @@ pub put-append : (vs ws b : List ℕ) (at : ℕ) → put b at (vs ++ ws) ≡ put
 unfolding put
 put-append [] ws b at = rw add-zero
 put-append (v ∷ vs) ws b at = rw (add-suc, ← suc-add) (put-append vs ws (set b at v) (suc at))
+
+-- where there is room, a write is what stands before it, the bytes, and what stands behind them
+put-sets : (vs b : List ℕ) (at : ℕ) → put b at vs ≡ sets b at vs
+unfolding put
+put-sets [] b at = refl
+put-sets (v ∷ vs) b at = put-sets vs (set b at v) (suc at)
+
+pub put-is : (vs b : List ℕ) (at : ℕ) → at + length vs ≤ length b → put b at vs ≡ take at b ++ vs ++ drop (at + length vs) b
+put-is vs b at h = put-sets vs b at ∙ sets-eq vs b at h
 
 -- ---- bytes stay bytes
 

@@ -1,0 +1,9 @@
+pub mod Halves
+pub mod Loops
+pub mod Marks
+pub mod Edges
+pub mod Group
+pub mod Paired
+pub mod Entries
+pub mod Rings
+pub mod Sound

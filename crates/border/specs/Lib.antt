@@ -1,0 +1,5 @@
+pub mod Halves
+pub mod Loops
+pub mod Index
+pub mod Memory
+pub mod Plain

@@ -1,0 +1,3 @@
+pub mod Order
+pub mod Meaning
+pub mod Answers

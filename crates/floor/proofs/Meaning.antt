@@ -1,0 +1,104 @@
+-- The reader accepts exactly the sound floors; and what acceptance gives its callers. Assumes nothing.
+use mathlib.Core.Path.{_≡_, refl, sym, ap, _∙_}
+use mathlib.Core.Bool.{true, not}
+use mathlib.Core.List.{List}
+use Prim.Native.Nat.{ℕ, _≤_}
+use borrow.Author.Tests.{le-ltb, not-false}
+use Rattle.verdict.specs.Verdict.{_then_, accepted}
+use Rattle.verdict.specs.Memory.{workSize}
+use Rattle.verdict.specs.declared.Answer.{Answer}
+use Rattle.verdict.proofs.Verdict.{passed, unbroken, met, then-both}
+use Rattle.tables.specs.Header.{headerVerdict, RightHeader}
+use Rattle.tables.specs.Parts.{Parts, partsOf, wordPlace}
+use Rattle.tables.proofs.Right.{header-met, header-sound, sound-header}
+use Rattle.tables.proofs.Reading.{sized-of}
+use Rattle.mesh.specs.Mesh.{rules7to10, Meshed}
+use Rattle.mesh.proofs.Plain.{mesh-met, met-mesh}
+use Rattle.tree.specs.Nodes.{rules11to12, nodesOf, faceOf}
+use Rattle.tree.specs.Tree.{oneTree, rule13}
+use Rattle.tree.specs.Boxes.{rule14, rules13to14}
+use Rattle.tree.specs.Plain.{SoundNodes, Closed}
+use Rattle.tree.proofs.Rule12.{nodes-met, met-nodes, kinds-closed}
+use Rattle.tree.proofs.Theorem.{rule13-met, met-rule13}
+use Rattle.tree.proofs.Held.{boxes-met, met-boxes}
+use Rattle.border.specs.Halves.{rules15to16}
+use Rattle.border.specs.Loops.{rules17to19}
+use Rattle.border.proofs.Sound.{borders-sound, sound-borders}
+use Rattle.floor.specs.Groups.{rules7to12, rules15to19, rules13to19, rules1to19}
+use Rattle.floor.specs.Reader.{rule20, readerVerdict}
+use Rattle.floor.specs.Sound.{Sound}
+use Rattle.floor.specs.Accepted.{Accepted}
+use Rattle.floor.proofs.Order.{by-groups}
+
+-- what rules 7 to 12 give once they are passed
+pub record Shaped (p : Parts) : Type 0 where
+  pub mesh : Meshed p
+  pub nodes : SoundNodes p
+  pub closed : Closed p
+
+pub shape-met : (b : List ℕ) → RightHeader b → rules7to12 (wordPlace b) (partsOf b) .number ≡ 0 → Shaped (partsOf b)
+unfolding rules7to12
+shape-met b r z =
+    let s = sized-of b r in
+    let h = passed _ _ z in
+    let n = nodes-met (partsOf b) (h .1) in
+    record { mesh = mesh-met (wordPlace b) (partsOf b) (s .adjacency) (h .0); nodes = n; closed = kinds-closed (partsOf b) (s .faces) (n .kinds) }
+
+one-of : (p : Parts) → rule13 p .number ≡ 0 → oneTree (nodesOf p) (faceOf p) 0 (p .nodes) (p .faces) ≡ true
+unfolding rule13
+one-of p z = not-false _ (unbroken 12 (not (oneTree (nodesOf p) (faceOf p) 0 (p .nodes) (p .faces))) 0 z)
+
+-- all that rules 1 to 19 give
+pub all-met : (b : List ℕ) → rules1to19 b .number ≡ 0 → Accepted b
+unfolding rules1to19 rules13to19 rules15to19 rules13to14
+all-met b z =
+    let h1 = passed _ _ z in
+    let h2 = passed _ _ (h1 .1) in
+    let h3 = passed _ _ (h2 .1) in
+    let t = passed _ _ (h3 .0) in
+    let h4 = passed _ _ (h3 .1) in
+    let s = sized-of b (h1 .0) in
+    let shape = shape-met b (h1 .0) (h2 .0) in
+    record {
+      header = h1 .0;
+      long = header-met b (h1 .0) .long;
+      sized = s;
+      mesh = shape .mesh;
+      nodes = shape .nodes;
+      closed = shape .closed;
+      one = one-of (partsOf b) (t .0);
+      tree = rule13-met (partsOf b) (shape .nodes .count) (shape .closed) (t .0);
+      boxes = boxes-met (partsOf b) (s .faces) (t .1);
+      borders = borders-sound (partsOf b) (h4 .0) (h4 .1);
+    }
+
+-- ---- THE BRIDGE: what acceptance gives
+
+pub accepted-of : (b : List ℕ) (room : ℕ) → readerVerdict b room .number ≡ 0 → Accepted b
+accepted-of b room z = all-met b (passed _ _ (rw (by-groups b room) at z) .1)
+
+-- ---- the reader accepts exactly the sound floors
+
+pub accepted-sound : (b : List ℕ) (room : ℕ) → readerVerdict b room .number ≡ 0 → Sound b
+accepted-sound b room z =
+    let a = accepted-of b room z in
+    record { header = header-sound b (a .header); mesh = a .mesh; nodes = a .nodes; tree = a .tree; boxes = a .boxes; borders = a .borders }
+
+room-enough : (room : ℕ) → workSize ≤ room → rule20 room ≡ accepted
+unfolding rule20
+room-enough room l = rw (le-ltb room workSize l) (met 20 0)
+
+sound-all : (b : List ℕ) → Sound b → rules1to19 b ≡ accepted
+unfolding rules1to19 rules7to12 rules13to19 rules15to19 rules13to14
+sound-all b s =
+    let p = partsOf b in
+    let h = sound-header b (s .header) in
+    let few = sized-of b (ap (λ (a : Answer). a .number) h) .faces in
+    let c = kinds-closed p few (s .nodes .kinds) in
+    let e = sound-borders p (s .borders) in
+    then-both h
+    (then-both (then-both (met-mesh (wordPlace b) p (s .mesh)) (met-nodes p (s .nodes)))
+    (then-both (then-both (met-rule13 p c (s .tree)) (met-boxes p few (s .nodes .kinds) (s .boxes))) (then-both (e .0) (e .1))))
+
+pub sound-accepted : (b : List ℕ) (room : ℕ) → workSize ≤ room → Sound b → readerVerdict b room ≡ accepted
+sound-accepted b room l s = by-groups b room ∙ then-both (room-enough room l) (sound-all b s)

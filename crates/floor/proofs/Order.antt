@@ -1,0 +1,55 @@
+-- The reader's table by groups: the groups one after another are the table, and the verdict is the first broken rule in order.
+-- Assumes nothing.
+use mathlib.Core.Path.{_≡_, refl, sym, ap, _∙_}
+use mathlib.Core.List.{List, [], _∷_}
+use mathlib.Core.Bool.{not}
+use Prim.Native.Nat.{ℕ}
+use lib.Dec.{eqb}
+use Rattle.verdict.specs.Verdict.{_then_, accepted, inOrder, FirstBroken}
+use Rattle.verdict.specs.declared.Answer.{Answer}
+use Rattle.verdict.proofs.Verdict.{then-next, then-stop, then-assoc, then-last, Proper, rule-proper, each-proper, then-proper, first-broken, first-only}
+use Rattle.tables.specs.Header.{headerVerdict, rules2to6}
+use Rattle.tables.specs.Parts.{Parts, partsOf}
+use Rattle.mesh.specs.Mesh.{rules7to10}
+use Rattle.tree.specs.Nodes.{rules11to12}
+use Rattle.tree.specs.Boxes.{rules13to14}
+use Rattle.border.specs.Halves.{rules15to16}
+use Rattle.border.specs.Loops.{wrongLoop, loopStart, rule19, rules17to19}
+use Rattle.floor.specs.Groups.{rules7to12, rules15to19, rules13to19, rules1to19}
+use Rattle.floor.specs.Reader.{rule20, readerVerdict, readerRules}
+
+-- ---- the table, by groups
+
+pub by-groups : (b : List ℕ) (room : ℕ) → readerVerdict b room ≡ (rule20 room then rules1to19 b)
+unfolding readerVerdict rules1to19 rules7to12 rules13to19 rules15to19 headerVerdict rules2to6 rules7to10 rules11to12 rules13to14 rules15to16 rules17to19
+by-groups b room = simp then-assoc
+
+-- ---- one group, then the next, as code goes
+
+pub stops : (a b r : Answer) → r ≡ a → (r .number ≡ 0 → ⊥) → r ≡ (a then b)
+stops a b r e z = e ∙ sym (then-stop a (λ y. z (ap (λ (x : Answer). x .number) e ∙ y)) b)
+
+pub goes-on : (a b r q : Answer) → r ≡ a → r .number ≡ 0 → q ≡ b → q ≡ (a then b)
+goes-on a b r q e z f = f ∙ sym (then-next a b (sym (ap (λ (x : Answer). x .number) e) ∙ z))
+
+pub zero : (a r : Answer) → r ≡ a → r .number ≡ 0 → a .number ≡ 0
+zero a r e z = sym (ap (λ (x : Answer). x .number) e) ∙ z
+
+-- ---- the first broken rule in order
+
+last-proper : (p : Parts) → Proper (rule19 p)
+unfolding rule19
+last-proper p =
+    then-proper _ _ (each-proper 18 (p .perimeters) (wrongLoop p) (λ j. j))
+    (rule-proper 18 (not (eqb (loopStart p (p .perimeters)) (p .edges))) (p .perimeters))
+
+in-order : (b : List ℕ) (room : ℕ) → readerVerdict b room ≡ inOrder (readerRules b room)
+unfolding readerVerdict readerRules inOrder
+in-order b room = simp (then-assoc, then-last (rule19 (partsOf b)) (last-proper (partsOf b)))
+
+pub reader-first : (b : List ℕ) (room : ℕ) → FirstBroken (readerRules b room) (readerVerdict b room)
+reader-first b room = rw (in-order b room) (first-broken (readerRules b room))
+
+-- two answers that the table admits are equal
+pub reader-only : (b : List ℕ) (room : ℕ) (a : Answer) → FirstBroken (readerRules b room) a → a ≡ readerVerdict b room
+reader-only b room a f = first-only (readerRules b room) a (readerVerdict b room) f (reader-first b room)

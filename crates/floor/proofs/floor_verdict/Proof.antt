@@ -1,0 +1,57 @@
+-- The header, then the shape, then the tree and the borders. Assumes nothing.
+use borrow.Author.Needs.{needs}
+use native.Mathlib.Omega.{arith}
+use mathlib.Core.Path.{_≡_, refl, sym, ap, _∙_}
+use mathlib.Core.List.{List}
+use Prim.Native.Nat.{ℕ}
+use denote.Ref.{now}
+use Rattle.verdict.specs.Memory.{workSize, clearedTo}
+use Rattle.verdict.proofs.Memory.{cleared-twice}
+use Rattle.tables.specs.Header.{RightHeader}
+use Rattle.tables.specs.Parts.{partsOf}
+use Rattle.tables.proofs.Right.{header-met}
+use Rattle.floor.specs.Groups.{rules1to19}
+use Rattle.floor.proofs.Order.{stops, goes-on, zero}
+use Rattle.floor.proofs.Meaning.{Shaped, shape-met}
+use Rattle.floor.proofs.floor_verdict.Statement.{statement}
+use Rattle.floor.proofs.floor_verdict.Tie as tie
+
+right : (c : tie.Else1) → RightHeader (now (c .before .before .before .before .before .args .bytes))
+right c = zero _ _ (c .before .before .header-verdict .ensures) (c .if1 .left)
+
+shaped : (c : tie.Else2) → Shaped (partsOf (now (c .before .before .before .before .before .before .before .before .args .bytes)))
+shaped c = shape-met _ (right (c .before .before .before)) (zero _ _ (c .before .before .shape-verdict .ensures) (c .if2 .left))
+
+returns : tie.Need-returns
+unfolding rules1to19
+returns c = (stops _ _ _ (c .before .before .header-verdict .ensures) (c .if1 .taken), refl)
+
+shape-verdict-requires : tie.Need-shape-verdict-requires
+shape-verdict-requires c κs = (right c, header-met _ (right c) .long)
+
+returns-2 : tie.Need-returns-2
+unfolding rules1to19
+returns-2 c =
+    let e = c .before .before .before in
+    (goes-on _ _ _ _ (e .before .before .header-verdict .ensures) (e .if1 .left) (stops _ _ _ (c .before .before .shape-verdict .ensures) (c .if2 .taken)), refl)
+
+tree-and-borders-requires : tie.Need-tree-and-borders-requires
+tree-and-borders-requires c κs =
+    let s = c .before .before .before .before .before .before .before .before .before in
+    let h = right (c .before .before .before .before) in
+    let q = shaped (c .before) in
+    ((q .mesh .finite, q .mesh .cornered, q .closed), (h, header-met _ h .long, s .pre))
+
+returns-3 : tie.Need-returns-3
+unfolding rules1to19
+returns-3 c =
+    let b = c .before .before .tree-and-borders in
+    let f = c .before .before .before .before in
+    let e = f .before .before .before in (
+      goes-on _ _ _ _ (e .before .before .header-verdict .ensures) (e .if1 .left)
+          (goes-on _ _ _ _ (f .before .before .shape-verdict .ensures) (f .if2 .left) (b .ensures .0)),
+      ap (clearedTo workSize) (b .ensures .1) ∙ cleared-twice workSize _,
+    )
+
+pub floor-verdict-spec : {M : Type 1} → statement M
+floor-verdict-spec = tie.close (tie.spec (search needs) returns shape-verdict-requires returns-2 tree-and-borders-requires (search needs) returns-3)

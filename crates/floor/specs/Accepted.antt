@@ -1,0 +1,26 @@
+-- All that acceptance by the reader gives its callers, by name: what the rewriter, the query, the editor and the link check go by.
+use Prim.Native.Nat.{ℕ, _≤_}
+use mathlib.Core.Path.{_≡_}
+use mathlib.Core.Bool.{true}
+use mathlib.Core.List.{List}
+use lib.ListN.{length}
+use Rattle.tables.specs.Header.{RightHeader}
+use Rattle.tables.specs.Parts.{partsOf}
+use Rattle.tables.specs.Fixed.{Sized}
+use Rattle.mesh.specs.Mesh.{Meshed}
+use Rattle.tree.specs.Nodes.{nodesOf, faceOf}
+use Rattle.tree.specs.Tree.{oneTree}
+use Rattle.tree.specs.Plain.{SoundNodes, Closed, FloorTree, BoxesHold}
+use Rattle.border.specs.Plain.{SoundBorders}
+
+pub record Accepted (b : List ℕ) : Type 0 where
+  pub header : RightHeader b
+  pub long : 136 ≤ length b
+  pub sized : Sized (partsOf b)
+  pub mesh : Meshed (partsOf b)
+  pub nodes : SoundNodes (partsOf b)
+  pub closed : Closed (partsOf b)
+  pub one : oneTree (nodesOf (partsOf b)) (faceOf (partsOf b)) 0 (partsOf b .nodes) (partsOf b .faces) ≡ true
+  pub tree : FloorTree (partsOf b)
+  pub boxes : BoxesHold (partsOf b)
+  pub borders : SoundBorders (partsOf b)

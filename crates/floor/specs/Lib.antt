@@ -1,0 +1,4 @@
+pub mod Reader
+pub mod Groups
+pub mod Sound
+pub mod Accepted

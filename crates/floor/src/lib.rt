@@ -1,0 +1,131 @@
+// The reader of a floor: rules 1 to 20 in order, and the counts.
+use verdict::Answer;
+ghost use mathlib.Core.Path.{_≡_};
+ghost use Prim.Native.Nat.{_≤_};
+ghost use lib.ListN.{length};
+ghost use Rattle.verdict.specs.Memory.{workSize, clearedTo};
+ghost use Rattle.tables.specs.Header.{RightHeader};
+ghost use Rattle.tables.specs.Parts.{partsOf, wordPlace};
+ghost use Rattle.verdict.specs.Verdict.{accepted};
+ghost use Rattle.mesh.specs.Mesh.{Finite, Cornered};
+ghost use Rattle.tree.specs.Plain.{Closed};
+ghost use Rattle.floor.specs.Reader.{readerVerdict, walkableFaces, answerOf, readerAnswer, readerMemory};
+ghost use Rattle.floor.specs.Groups.{rules7to12, rules15to19, rules13to19, rules1to19};
+
+// What the reader answers: a number, a place, and the counts, which are 0 on refusal.
+#[repr(C)]
+pub struct Floor {
+    pub number: u32,
+    pub place: u32,
+    pub faces: u32,
+    pub walkable: u32,
+    pub edges: u32,
+    pub perimeters: u32,
+}
+
+// Rules 7 to 12 of a file with a right header.
+fn shape_verdict(bytes: &[u8]) -> Answer
+    requires { ⌜ RightHeader (now bytes) × (136 ≤ length (now bytes)) ⌝ }
+    ensures { λ r. ⌜ r ≡ rules7to12 (wordPlace (now (bytes .entry))) (partsOf (now (bytes .entry))) ⌝ }
+{
+    let so = mesh::mesh_verdict(bytes);
+    tree::then_nodes(so, bytes)
+}
+
+// Rules 15 to 19.
+fn borders_verdict(bytes: &[u8], work: &mut [u8]) -> Answer
+    requires { ⌜ RightHeader (now bytes) × (136 ≤ length (now bytes)) × (workSize ≤ length (now work)) ⌝ }
+    ensures answer { λ r. ⌜ r ≡ rules15to19 (partsOf (now (bytes .entry))) ⌝ }
+    ensures memory { λ _. ⌜ now (work .exit) ≡ clearedTo workSize (now (work .entry)) ⌝ }
+{
+    let pairs = border::pairs_verdict(bytes, work);
+    if pairs.number != 0 {
+        return pairs;
+    }
+    border::loops_verdict(bytes, work)
+}
+
+// Rules 13 to 19 of a floor whose rules 7 to 12 were accepted.
+fn tree_and_borders(bytes: &[u8], work: &mut [u8]) -> Answer
+    requires shaped { ⌜ Finite (partsOf (now bytes)) × Cornered (partsOf (now bytes)) × Closed (partsOf (now bytes)) ⌝ }
+    requires room { ⌜ RightHeader (now bytes) × (136 ≤ length (now bytes)) × (workSize ≤ length (now work)) ⌝ }
+    ensures answer { λ r. ⌜ r ≡ rules13to19 (partsOf (now (bytes .entry))) ⌝ }
+    ensures memory { λ _. ⌜ now (work .exit) ≡ clearedTo workSize (now (work .entry)) ⌝ }
+{
+    let tree = tree::tree_verdict(bytes, work);
+    if tree.number != 0 {
+        return tree;
+    }
+    borders_verdict(bytes, work)
+}
+
+// Rules 1 to 19, with work memory enough.
+fn floor_verdict(bytes: &[u8], work: &mut [u8]) -> Answer
+    requires { ⌜ workSize ≤ length (now work) ⌝ }
+    ensures answer { λ r. ⌜ r ≡ rules1to19 (now (bytes .entry)) ⌝ }
+    ensures memory { λ _. ⌜ clearedTo workSize (now (work .exit)) ≡ clearedTo workSize (now (work .entry)) ⌝ }
+{
+    let header = tables::header_verdict(bytes);
+    if header.number != 0 {
+        return header;
+    }
+    let shape = shape_verdict(bytes);
+    if shape.number != 0 {
+        return shape;
+    }
+    tree_and_borders(bytes, work)
+}
+
+// The reader's refusals. The work memory is left zero, and what lies past it as it was.
+pub fn read_verdict(bytes: &[u8], work: &mut [u8]) -> Answer
+    ensures answer { λ r. ⌜ r ≡ readerVerdict (now (bytes .entry)) (length (now (work .entry))) ⌝ }
+    ensures memory { λ _. ⌜ now (work .exit) ≡ readerMemory (now (work .entry)) ⌝ }
+{
+    if work.len() < verdict::WORK_SIZE {
+        return Answer {
+            number: 20,
+            place: 0,
+        };
+    }
+    let so = floor_verdict(bytes, work);
+    verdict::clear(work);
+    so
+}
+
+// The answer for an accepted floor.
+fn counted(bytes: &[u8]) -> Floor
+    requires { ⌜ RightHeader (now bytes) × (136 ≤ length (now bytes)) × (walkableFaces (partsOf (now bytes)) ≡ (partsOf (now bytes) .adjacency)) ⌝ }
+    ensures { λ r. ⌜ r ≡ answerOf accepted (partsOf (now (bytes .entry))) ⌝ }
+{
+    let faces = tables::count_of(bytes, 1) as u32;
+    let walkable = tables::count_of(bytes, 6) as u32;
+    let edges = tables::count_of(bytes, 7) as u32;
+    let perimeters = tables::count_of(bytes, 8) as u32;
+    Floor {
+        number: 0,
+        place: 0,
+        faces,
+        walkable,
+        edges,
+        perimeters,
+    }
+}
+
+// The reader: any bytes, any work memory.
+pub fn read(bytes: &[u8], work: &mut [u8]) -> Floor
+    ensures answer { λ r. ⌜ r ≡ readerAnswer (now (bytes .entry)) (length (now (work .entry))) ⌝ }
+    ensures memory { λ _. ⌜ now (work .exit) ≡ readerMemory (now (work .entry)) ⌝ }
+{
+    let so = read_verdict(bytes, work);
+    if so.number != 0 {
+        return Floor {
+            number: so.number,
+            place: so.place,
+            faces: 0,
+            walkable: 0,
+            edges: 0,
+            perimeters: 0,
+        };
+    }
+    counted(bytes)
+}

@@ -1,0 +1,15 @@
+pub mod ClassLaws
+pub mod RunLaws
+pub mod NameLaws
+pub mod SoundLaws
+pub mod SplitLaws
+pub mod DigitLaws
+pub mod NumberLaws
+pub mod DecimalLaws
+pub mod NumberTrip
+pub mod CountLaws
+pub mod WriteLaws
+pub mod WrittenLaws
+pub mod WordLaws
+pub mod CleanLaws
+pub mod Examples

@@ -1,0 +1,37 @@
+-- `text::skip_gap` meets its contract: `i` and the run from it stay one sum. Assumes nothing.
+use mathlib.Core.Path.{_≡_, refl, sym, _∙_}
+use Prim.Native.Nat.{_+_, _-_}
+use lib.ListN.{length, drop}
+use Rattle.text.specs.Class.{isGap}
+use Rattle.text.specs.Scan.{run}
+use Rattle.text.proofs.RunLaws.{run-on, run-off, run-end}
+use borrow.Author.Needs.{needs}
+use Rattle.text.proofs.skip_gap.Statement.{statement}
+use Rattle.text.proofs.skip_gap.Tie as tie
+
+abbrev Inv-loop : tie.InvT-loop
+Inv-loop l at i₀ i = i + run isGap (drop i l) ≡ at + run isGap (drop at l)
+
+abbrev μ-loop : tie.MeasureT-loop
+μ-loop l at i₀ i = length l - i
+
+loop-holds : tie.Need-loop-holds Inv-loop μ-loop
+loop-holds c = refl
+
+loop-again : tie.Need-loop-again Inv-loop μ-loop
+loop-again c =
+    let t = c .before .before .before in
+    sym (run-on isGap _ _ (t .loop-test .taken) (sym (c .before .is-gap .ensures) ∙ c .if1 .taken)) ∙ t .before .loop .inv
+
+returns : tie.Need-returns Inv-loop μ-loop
+returns c =
+    let t = c .before .before .before in
+    sym (run-off isGap _ _ (t .loop-test .taken) (sym (c .before .is-gap .ensures) ∙ c .if1 .left)) ∙ t .before .loop .inv
+
+returns-2 : tie.Need-returns-2 Inv-loop μ-loop
+returns-2 c = sym (run-end isGap _ _ (c .loop-test .left)) ∙ c .before .loop .inv
+
+pub skip-gap-spec : {M : Type 1} → statement M
+skip-gap-spec =
+    tie.close
+    (tie.spec Inv-loop μ-loop loop-holds (search needs) (search needs) (search needs) (search needs) loop-again returns returns-2)

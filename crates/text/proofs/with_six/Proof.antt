@@ -1,0 +1,12 @@
+-- `text::with_six` meets its contract. Assumes nothing.
+use mathlib.Core.Path.{refl}
+use Rattle.text.specs.Number.{sixed}
+use Rattle.text.proofs.with_six.Statement.{statement}
+use Rattle.text.proofs.with_six.Tie as tie
+
+returns : tie.Need-returns
+unfolding sixed
+returns c = refl
+
+pub with-six-spec : {M : Type 1} → statement M
+with-six-spec = tie.close (tie.spec returns)
