@@ -787,7 +787,7 @@ pub fn put_lowered(out: &mut [u8], at: usize, w: &[u8]) -> usize
 }
 
 // The last k digits of v.
-fn put_fixed(out: &mut [u8], at: usize, k: usize, v: u64) -> usize
+pub fn put_fixed(out: &mut [u8], at: usize, k: usize, v: u64) -> usize
     requires { ⌜ at + k < 2 ^ 32 ⌝ }
     ensures { λ r. ⌜ Wrote (now (out .entry)) (now (out .exit)) at r (fixed k v) ⌝ }
 {

@@ -1,32 +1,59 @@
 -- The checked examples hold: one test that is computed over the table, and one law that turns it into the equation of each case.
 -- Assumes nothing.
 use mathlib.Core.Path.{_≡_, refl, sym, _∙_, ap}
-use mathlib.Core.Bool.{Bool, true, false, cond, _&&_, _||_}
+use mathlib.Core.Bool.{Bool, true, false, _&&_}
 use mathlib.Core.List.{List, [], _∷_, _++_}
 use Prim.Native.Nat.{ℕ, _+_, _<_, _≤_}
 use native.Mathlib.Omega.{arith}
 use lib.Dec.{T, ltb, eqb}
-use lib.ListN.{length, getD, replicate, length-append, length-replicate}
-use lib.Ieee.{ofBits, toBits, round}
+use lib.ListN.{length, replicate, length-append, length-replicate}
+use lib.Ieee.{Float, ofBits, toBits, round, le, lt, eq}
 use borrow.Author.Tests.{le-ltb, lt-ltb, ltb-true, eqb-true}
-use Rattle.verdict.specs.Lowest.{lowest, anyUnder}
-use Rattle.verdict.specs.Verdict.{rule, ruleOfEach, _then_, refused}
+use Rattle.verdict.specs.Lowest.{lowest, anyUnder, allUnder}
+use Rattle.verdict.specs.Lists.{times, tally, once}
+use Rattle.verdict.specs.Verdict.{rule, ruleOfEach, _then_, refused, accepted}
+use Rattle.verdict.specs.Memory.{workSize}
 use Rattle.verdict.proofs.Bools.{T-true, true-T, and-true}
-use Rattle.wire.specs.Bytes.{u32At}
-use Rattle.grid.specs.Grid.{onGrid, scaled, gridFloat, mayNudge, nudgeBits}
+use Rattle.verdict.proofs.Verdict.{then-next, then-stop}
+use Rattle.wire.specs.Bytes.{u32At, u32Bytes}
+use Rattle.wire.specs.Words.{wordsAt, bytesOf}
+use Rattle.grid.specs.Grid.{finite, onGrid, scaled, gridFloat, mayNudge, nudgeBits}
+use Rattle.grid.specs.Box.{between, noneOver, holdsPoint, holdsBox, boxOfBits}
 use Rattle.grid.specs.Triangle.{inTriangle, sides, allLeft, allRight, cross}
 use Rattle.tables.specs.Tables.{rule5, rule6, outsideAt, outside, spanOf, shares, sharesEarlier}
-use Rattle.tables.specs.Header.{wrongLength, headerVerdict, headerRules, startsWrong, differs, limit, rule1, rule2, rule3, rule4, rules2to6}
+use Rattle.tables.specs.Header.{wrongLength, headerVerdict, startsWrong, differs, limit, rule1, rule2, rule3, rule4}
+use Rattle.tables.specs.Parts.{partsOf, tableWords, wordOf, wordPlace}
 use Rattle.tables.proofs.Right.{wrong-long}
-use Rattle.worked.specs.Worked.{Deed, read, hold, nudge, gives, Case, Right, worked}
+use Rattle.mesh.specs.Floats.{wild, wildHead, wildIn, rule7In, rule7}
+use Rattle.mesh.specs.Faces.{wrongCorner, wrongCorners, walkable, strange, misplaced, rule8, rule9, rule10}
+use Rattle.tree.specs.Nodes.{nodesOf, isPlane, isLeaf, isInner, neither, rule11, rule12}
+use Rattle.tree.specs.Tree.{ends, deep, leafFaces, oneTree, rule13}
+use Rattle.tree.specs.Boxes.{boxOf, holdsCorner, holdsFace, holdsChildren, tooSmall, rule14}
+use Rattle.border.specs.Halves.{from, to, runs, repeats, partner, border, pairing, wrongAdjacent, rule15, rule16}
+use Rattle.border.specs.Loops.{standsIn, wrongEdge, missing, rule17, wrongTransition, rule18, loopStart, after, openAt, openRun, wrongLoop, rule19}
+use Rattle.floor.specs.Groups.{rules1to19}
+use Rattle.floor.specs.Reader.{rule20, readerVerdict, walkableFaces, answerOf, readerAnswer}
+use Rattle.floor.proofs.Order.{by-groups}
+use Rattle.worked.specs.Worked.{Deed, read, pair, hold, nudge, told, gives, Case, Right, triangle, square, worked}
 
-too-long : (b : List ℕ) → 1048576 < length b → headerVerdict b ≡ refused 1 0
-unfolding wrongLength
-too-long b l = wrong-long b (rw (le-ltb (length b) 136 (omega arith), lt-ltb 1048576 (length b) l))
+-- ---- a file that is too long, without its bytes
+
+long-verdict : (b : List ℕ) → 1048576 < length b → readerVerdict b workSize ≡ refused 1 0
+unfolding wrongLength rules1to19 rule20 rule
+long-verdict b l =
+    by-groups b workSize
+    ∙ rw (wrong-long b (rw (le-ltb (length b) 136 (omega arith), lt-ltb 1048576 (length b) l)), then-next accepted)
+    (then-stop (refused 1 0) (λ z. omega arith) _)
+
+long-answer : (b : List ℕ) → 1048576 < length b → told (readerAnswer b workSize) ≡ 1 ∷ 0 ∷ 0 ∷ 0 ∷ 0 ∷ 0 ∷ []
+unfolding readerAnswer answerOf
+long-answer b l = rw (long-verdict b l)
 
 -- the same numbers, without the list of a file that is too long
 quick : Deed → List ℕ
-quick (read start zeros) = elim (ltb 1048576 (length start + zeros)) [ true ↦ 1 ∷ 0 ∷ [] | false ↦ gives (read start zeros) ]
+quick (read start zeros) =
+    elim (ltb 1048576 (length start + zeros)) [ true ↦ 1 ∷ 0 ∷ 0 ∷ 0 ∷ 0 ∷ 0 ∷ [] | false ↦ gives (read start zeros) ]
+quick (pair file hs) = gives (pair file hs)
 quick (hold ax ay bx by cx cy px py) = gives (hold ax ay bx by cx cy px py)
 quick (nudge b n) = gives (nudge b n)
 
@@ -38,11 +65,14 @@ quick-right (read start zeros) = by (ltb 1048576 (length start + zeros)) refl
     b = start ++ replicate zeros 0
 
     by : (t : Bool) → ltb 1048576 (length start + zeros) ≡ t
-        → headerVerdict b .number ∷ headerVerdict b .place ∷ [] ≡ elim t [ true ↦ 1 ∷ 0 ∷ [] | false ↦ headerVerdict b .number ∷ headerVerdict b .place ∷ [] ]
-    by true e = rw (too-long b (simp (length-append, length-replicate) (ltb-true _ _ e))) refl
+        → told (readerAnswer b workSize) ≡ elim t [ true ↦ 1 ∷ 0 ∷ 0 ∷ 0 ∷ 0 ∷ 0 ∷ [] | false ↦ told (readerAnswer b workSize) ]
+    by true e = long-answer b (simp (length-append, length-replicate) (ltb-true _ _ e))
     by false e = refl
+quick-right (pair file hs) = refl
 quick-right (hold ax ay bx by cx cy px py) = refl
 quick-right (nudge b n) = refl
+
+-- ---- the test
 
 same : List ℕ → List ℕ → Bool
 same [] [] = true
@@ -73,7 +103,13 @@ right-of (c ∷ cs) t =
     (quick-right (c .deed) ∙ same-eq (quick (c .deed)) (c .result) (true-T _ (h .0)), right-of cs (true-T _ (h .1)))
 
 computed : T (tested worked)
-unfolding tested quick gives same headerVerdict rules2to6 rule1 rule2 rule3 rule4 limit rule5 rule6 ruleOfEach rule _then_ wrongLength startsWrong differs lowest anyUnder outsideAt outside spanOf shares sharesEarlier u32At inTriangle sides allLeft allRight cross mayNudge nudgeBits onGrid scaled gridFloat ofBits toBits round
+unfolding worked triangle square tested quick gives same
+    bytesOf u32Bytes u32At wordsAt rule ruleOfEach _then_ lowest anyUnder allUnder times tally once
+    readerAnswer answerOf readerVerdict walkableFaces rule20 rule1 rule2 rule3 rule4 limit rule5 rule6 wrongLength startsWrong differs outsideAt outside spanOf shares sharesEarlier
+    partsOf tableWords wordOf wordPlace rule7 rule7In wild wildHead wildIn finite ofBits rule8 wrongCorners wrongCorner rule9 strange rule10 misplaced walkable
+    rule11 rule12 neither isLeaf isInner isPlane nodesOf rule13 oneTree deep ends leafFaces rule14 tooSmall holdsChildren holdsFace holdsCorner boxOf boxOfBits holdsPoint holdsBox between noneOver le lt eq
+    rule15 rule16 repeats partner runs from to wrongAdjacent pairing border rule17 standsIn wrongEdge missing rule18 wrongTransition rule19 wrongLoop loopStart openRun openAt after
+    inTriangle sides allLeft allRight cross mayNudge nudgeBits onGrid scaled gridFloat toBits round
 computed = tt
 
 pub examples : Right worked

@@ -1,25 +1,36 @@
 -- Document 01's checked examples as one table: what is done, and the numbers that it gives by the definitions.
 use Prim.Native.Nat.{ℕ, _+_}
 use mathlib.Core.Path.{_≡_}
-use mathlib.Core.List.{List, [], _∷_, _++_}
+use mathlib.Core.List.{List, [], _∷_, _++_, map}
 use lib.ListN.{replicate}
 use lib.IntN.{ℤ, pos}
 use Rattle.verdict.specs.Lists.{bit}
-use Rattle.verdict.specs.declared.Answer.{Answer}
+use Rattle.verdict.specs.Memory.{workSize}
+use Rattle.wire.specs.Words.{bytesOf}
 use Rattle.grid.specs.Grid.{mayNudge, nudgeBits}
 use Rattle.grid.specs.Triangle.{inTriangle}
-use Rattle.tables.specs.Header.{magic, headerVerdict}
+use Rattle.tables.specs.Header.{magic}
+use Rattle.tables.specs.Parts.{partsOf}
+use Rattle.border.specs.Halves.{pairing}
+use Rattle.floor.specs.Reader.{readerAnswer}
+use Rattle.floor.specs.declared.Floor.{Floor}
 
--- what is done: a file of some bytes and then so many zeros is read; a triangle is asked for a point, corners and point in
--- sixty-fourths; a float is nudged
+-- what is done: a file of some bytes and then so many zeros is read; half-edges of a file are paired; a triangle is asked for a
+-- point, corners and point in sixty-fourths; a float is nudged
 pub data Deed : Type 0 where
   read : List ℕ → ℕ → Deed
+  pair : List ℕ → List ℕ → Deed
   hold : (ax ay bx by cx cy px py : ℕ) → Deed
   nudge : ℕ → ℤ → Deed
 
--- what it gives: number and place; 1 or 0; 1 or 0 and the new bits
+-- the reader's answer: number, place, faces, walkable, edges, perimeters
+abbrev pub told : Floor → List ℕ
+told r = r .number ∷ r .place ∷ r .faces ∷ r .walkable ∷ r .edges ∷ r .perimeters ∷ []
+
+-- what a deed gives: the reader's answer; what the adjacency entries should be; 1 or 0; 1 or 0 and the new bits
 unfoldable pub gives : Deed → List ℕ
-gives (read start zeros) = let a = headerVerdict (start ++ replicate zeros 0) in a .number ∷ a .place ∷ []
+gives (read start zeros) = told (readerAnswer (start ++ replicate zeros 0) workSize)
+gives (pair file hs) = map (pairing (partsOf file)) hs
 gives (hold ax ay bx by cx cy px py) = bit (inTriangle (pos ax) (pos ay) (pos bx) (pos by) (pos cx) (pos cy) (pos px) (pos py)) ∷ []
 gives (nudge b n) = bit (mayNudge b n) ∷ nudgeBits b n ∷ []
 
@@ -34,11 +45,51 @@ case d r = record { deed = d; result = r }
 abbrev pub header : List ℕ
 header = magic ++ 1 ∷ []
 
-abbrev pub worked : List Case
+-- -1 as 32 bits, and the float 1
+abbrev pub none : ℕ
+none = 4294967295
+
+abbrev pub one : ℕ
+one = 1065353216
+
+-- a floor in words: world_coords and the header's fifteen floats, then these
+abbrev pub file : List ℕ → List ℕ
+file words = magic ++ bytesOf (1 ∷ (replicate 15 0 ++ words))
+
+-- one walkable triangle in fixed form: counts and offsets; three vertices; the face; its material, normal and distance; the node; the
+-- adjacency entry; the edges; the perimeter
+unfoldable pub triangle : List ℕ
+triangle =
+    file
+    ((3 ∷ 136 ∷ 1 ∷ 172 ∷ 184 ∷ 188 ∷ 200 ∷ 1 ∷ 204 ∷ 0 ∷ 1 ∷ 248 ∷ 3 ∷ 260 ∷ 1 ∷ 284 ∷ []) ++
+    ((0 ∷ 0 ∷ 0 ∷ one ∷ 0 ∷ 0 ∷ 0 ∷ one ∷ 0 ∷ []) ++
+    ((0 ∷ 1 ∷ 2 ∷ []) ++
+    ((4 ∷ 0 ∷ 0 ∷ one ∷ 0 ∷ []) ++
+    ((0 ∷ 0 ∷ 0 ∷ one ∷ one ∷ 0 ∷ 0 ∷ 4 ∷ 0 ∷ none ∷ none ∷ []) ++
+    ((none ∷ none ∷ none ∷ []) ++ (0 ∷ none ∷ 1 ∷ none ∷ 2 ∷ none ∷ 3 ∷ [])))))))
+
+-- faces (0,1,2), (2,1,3) in fixed form, with four edges in one loop
+unfoldable pub square : ℕ → ℕ → ℕ → ℕ → List ℕ
+square a b c d =
+    file
+    ((4 ∷ 136 ∷ 2 ∷ 184 ∷ 208 ∷ 216 ∷ 240 ∷ 3 ∷ 248 ∷ 0 ∷ 2 ∷ 380 ∷ 4 ∷ 404 ∷ 1 ∷ 436 ∷ []) ++
+    ((0 ∷ 0 ∷ 0 ∷ one ∷ 0 ∷ 0 ∷ 0 ∷ one ∷ 0 ∷ one ∷ one ∷ 0 ∷ []) ++
+    ((0 ∷ 1 ∷ 2 ∷ 2 ∷ 1 ∷ 3 ∷ []) ++
+    ((4 ∷ 4 ∷ 0 ∷ 0 ∷ one ∷ 0 ∷ 0 ∷ one ∷ 0 ∷ 0 ∷ []) ++
+    ((0 ∷ 0 ∷ 0 ∷ one ∷ one ∷ 0 ∷ none ∷ 4 ∷ 1 ∷ 1 ∷ 2 ∷ []) ++
+    ((0 ∷ 0 ∷ 0 ∷ one ∷ one ∷ 0 ∷ 0 ∷ 4 ∷ 0 ∷ none ∷ none ∷ []) ++
+    ((0 ∷ 0 ∷ 0 ∷ one ∷ one ∷ 0 ∷ 1 ∷ 4 ∷ 0 ∷ none ∷ none ∷ []) ++
+    ((none ∷ 3 ∷ none ∷ 1 ∷ none ∷ none ∷ []) ++ (a ∷ none ∷ b ∷ none ∷ c ∷ none ∷ d ∷ none ∷ 4 ∷ [])))))))))
+
+unfoldable pub worked : List Case
 worked =
-    case (read header 127) (0 ∷ 0 ∷ []) ∷  -- W1
-    case (read header 126) (1 ∷ 0 ∷ []) ∷  -- W2
-    case (read header 1048568) (1 ∷ 0 ∷ []) ∷  -- W3
+    case (read header 127) (0 ∷ 0 ∷ 0 ∷ 0 ∷ 0 ∷ 0 ∷ []) ∷  -- W1
+    case (read header 126) (1 ∷ 0 ∷ 0 ∷ 0 ∷ 0 ∷ 0 ∷ []) ∷  -- W2
+    case (read header 1048568) (1 ∷ 0 ∷ 0 ∷ 0 ∷ 0 ∷ 0 ∷ []) ∷  -- W3
+    case (read triangle 0) (0 ∷ 0 ∷ 1 ∷ 1 ∷ 3 ∷ 1 ∷ []) ∷  -- W4
+    case (pair (square 0 4 5 2) (0 ∷ 1 ∷ 2 ∷ 3 ∷ 4 ∷ 5 ∷ [])) (none ∷ 3 ∷ none ∷ 1 ∷ none ∷ none ∷ []) ∷  -- W5
+    case (read (square 0 4 5 2) 0) (0 ∷ 0 ∷ 2 ∷ 2 ∷ 4 ∷ 1 ∷ []) ∷  -- W6
+    case (read (square 0 5 4 2) 0) (19 ∷ 0 ∷ 0 ∷ 0 ∷ 0 ∷ 0 ∷ []) ∷  -- W7
     case (hold 0 0 64 0 0 64 32 32) (1 ∷ []) ∷  -- W8
     case (hold 0 0 64 0 0 64 64 0) (1 ∷ []) ∷
     case (hold 0 0 64 0 0 64 33 32) (0 ∷ []) ∷

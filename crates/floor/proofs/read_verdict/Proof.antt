@@ -7,14 +7,14 @@ use Rattle.floor.proofs.read_verdict.Statement.{statement}
 use Rattle.floor.proofs.read_verdict.Tie as tie
 
 returns : tie.Need-returns
-returns c = too-little _ _ (c .if1 .taken)
+returns c = too-little _ _ (omega arith)
 
 returns-2 : tie.Need-returns-2
 returns-2 c =
     let clear = c .before .before .clear in
     let e = c .before .before .before .before .before .before in
     let floor = e .floor-verdict in
-    let h = enough _ _ (e .before .before .if1 .left) in
+    let h = enough _ _ (omega arith) in
     (floor .ensures .0 ∙ h .0, clear .ensures ∙ (floor .ensures .1 ∙ h .1))
 
 pub read-verdict-spec : {M : Type 1} → statement M
