@@ -1,7 +1,8 @@
 -- 20, then the rest; the work memory is cleared at the end. Assumes nothing.
 use borrow.Author.Needs.{needs}
 use native.Mathlib.Omega.{arith}
-use mathlib.Core.Path.{_≡_, sym, _∙_}
+use mathlib.Core.Path.{_≡_, _∙_}
+use denote.Ref.{now}
 use Rattle.floor.proofs.Answers.{too-little, enough}
 use Rattle.floor.proofs.read_verdict.Statement.{statement}
 use Rattle.floor.proofs.read_verdict.Tie as tie
@@ -14,7 +15,8 @@ returns-2 c =
     let clear = c .before .before .clear in
     let e = c .before .before .before .before .before .before in
     let floor = e .floor-verdict in
-    let h = enough _ _ (omega arith) in
+    let a = e .before .before .before .before .before .args in
+    let h = enough (now (a .bytes)) (now (a .work)) (omega arith) in
     (floor .ensures .0 ∙ h .0, clear .ensures ∙ (floor .ensures .1 ∙ h .1))
 
 pub read-verdict-spec : {M : Type 1} → statement M
