@@ -81,7 +81,7 @@ fn table_at(k: usize) -> Table
 }
 
 // Where table k lies.
-fn span_at(bytes: &[u8], k: usize) -> Span
+pub fn span_at(bytes: &[u8], k: usize) -> Span
     requires { ⌜ (k < 9) × (136 ≤ length (now bytes)) ⌝ }
     ensures { λ r. ⌜ r ≡ spanOf (now (bytes .entry)) (tableAt floorTables k) ⌝ }
 {

@@ -1,0 +1,176 @@
+-- The fixed form, written part by part. Assumes nothing.
+use mathlib.Core.Path.{_≡_, refl, sym, ap, _∙_}
+use mathlib.Core.List.{List, [], _∷_, _++_, append-assoc, append-nil}
+use Prim.Native.Nat.{ℕ, zero, suc, _+_, _*_, _≤_, _<_}
+use native.Mathlib.Numerals.{add-one}
+use native.Mathlib.Omega.{arith}
+use lib.ListN.{length, getD, set, take, drop, length-append, length-drop, take-append-drop}
+use lib.Seq.{take-suc, take-all, take-add, ext-getD, getD-take, getD-drop, length-take-le, drop-drop}
+use Rattle.verdict.specs.Output.{over}
+use Rattle.verdict.proofs.Output.{over-is, over-none, length-over, drop-over, take-over}
+use Rattle.wire.specs.Bytes.{u32At, u32Bytes, put, putU32, Bytes}
+use Rattle.wire.specs.Words.{wordsAt, bytesOf, joined}
+use Rattle.wire.proofs.Put.{length-put, put-append, put-is}
+use Rattle.wire.proofs.Numbers.{length-u32}
+use Rattle.wire.proofs.Runs.{bytes-append, length-bytes, read-spelled, joined-append}
+use Rattle.tables.specs.Tables.{tableAt}
+use Rattle.tables.specs.Header.{magic, floorTables, RightHeader}
+use Rattle.tables.specs.Parts.{Parts, partsOf, tableOf, tableWords, wordsIn}
+use Rattle.tables.specs.Fixed.{startOf, fieldsOf, formOf, Sized}
+use Rattle.tables.proofs.Right.{header-met, header-sound}
+use Rattle.tables.proofs.Reading.{sized-of, table-is, count-is, table-inside}
+use Rattle.tables.proofs.Reform.{start-more, start-within, form-most, before-length}
+use Rattle.fixed.specs.Written.{formUpTo}
+
+-- ---- bytes put where the written part ends
+
+pub over-put : (done o vs : List ℕ) (at : ℕ) → length done ≡ at → at + length vs ≤ length o → put (over done o) at vs ≡ over (done ++ vs) o
+over-put done o vs at e l =
+    put-is vs (over done o) at (rw (length-over done o (omega arith)) l)
+    ∙ rw (take-over done o at e, drop-over done o at e (length vs)) (over-is (done ++ vs) o (at + length vs) (length-append done vs ∙ omega arith))
+
+-- one byte more of a copy
+pub copied-more : (d : List ℕ) (at : ℕ) (s : List ℕ) (from j : ℕ) (e : List ℕ) → e ≡ put d at (take j (drop from s)) → from + j < length s
+    → set e (at + j) (getD s (from + j) 0) ≡ put d at (take (j + 1) (drop from s))
+unfolding put
+copied-more d at s from j e h l =
+    let r = drop from s in
+    let short : j < length r = rw (length-drop from s) (omega arith) in
+    rw (h, add-one j, take-suc r j 0 short, getD-drop from s j 0)
+    (sym (put-append (take j r) (getD s (from + j) 0 ∷ []) d at ∙ ap (λ (n : ℕ). put (put d at (take j r)) (at + n) (getD s (from + j) 0 ∷ [])) (length-take-le j r (omega arith))))
+
+-- four numbers
+pub four-words : (o : List ℕ) (at a b c d : ℕ)
+    → putU32 (putU32 (putU32 (putU32 o at a) (at + 4) b) (at + 8) c) (at + 12) d ≡ put o at (bytesOf (a ∷ b ∷ c ∷ d ∷ []))
+unfolding bytesOf
+four-words o at a b c d =
+    let B = u32Bytes b ++ (u32Bytes c ++ (u32Bytes d ++ [])) in
+    let C = u32Bytes c ++ (u32Bytes d ++ []) in
+    sym (next a B o at (at + 4) refl
+    ∙ next b C (putU32 o at a) (at + 4) (at + 8) (omega arith)
+    ∙ next c (u32Bytes d ++ []) (putU32 (putU32 o at a) (at + 4) b) (at + 8) (at + 12) (omega arith)
+    ∙ ap (put (putU32 (putU32 (putU32 o at a) (at + 4) b) (at + 8) c) (at + 12)) (append-nil (u32Bytes d)))
+  where
+    next : (w : ℕ) (rest o : List ℕ) (at n : ℕ) → at + 4 ≡ n → put o at (u32Bytes w ++ rest) ≡ put (putU32 o at w) n rest
+    next w rest o at n e = put-append (u32Bytes w) rest o at ∙ ap (λ (m : ℕ). put (putU32 o at w) m rest) (omega (arith, length-u32 w))
+
+-- ---- the form, part by part
+
+module _ (p : Parts) (h : Sized p) where
+  pub up-length : (k : ℕ) → length (formUpTo p k) ≡ startOf p k
+  unfolding formUpTo
+  up-length k = omega (arith, length-bytes (1 ∷ (p .floats ++ (fieldsOf p ++ joined (take k (p .tables))))), before-length p h k)
+
+  pub up-all : formUpTo p 9 ≡ formOf p
+  unfolding formUpTo formOf
+  up-all = rw (take-all 9 (p .tables) (omega (arith, h .nine-tables)))
+
+  pub up-first : (magic ++ bytesOf (1 ∷ p .floats)) ++ bytesOf (fieldsOf p) ≡ formUpTo p 0
+  unfolding formUpTo joined
+  up-first =
+      rw (append-nil (fieldsOf p))
+      (append-assoc magic (bytesOf (1 ∷ p .floats)) (bytesOf (fieldsOf p)) ∙ ap (λ (l : List ℕ). magic ++ l) (sym (bytes-append (1 ∷ p .floats) (fieldsOf p))))
+
+  pub up-more : (k : ℕ) → k < 9 → formUpTo p k ++ bytesOf (tableOf p k) ≡ formUpTo p (k + 1)
+  unfolding formUpTo joined
+  up-more k l =
+      let x = joined (take k (p .tables)) in
+      let e : joined (take (k + 1) (p .tables)) ≡ x ++ tableOf p k =
+      rw (add-one k, take-suc (p .tables) k [] (omega (arith, h .nine-tables)))
+      (joined-append (take k (p .tables)) (tableOf p k ∷ []) ∙ ap (λ (l : List ℕ). x ++ l) (append-nil (tableOf p k))) in
+      rw (e, append-assoc)
+      (ap (λ (l : List ℕ). magic ++ l)
+      (sym (bytes-append (1 ∷ (p .floats ++ (fieldsOf p ++ x))) (tableOf p k)) ∙ ap (λ (l : List ℕ). bytesOf (1 ∷ l)) (simp append-assoc)))
+
+part-read : (b : List ℕ) → Bytes b → (at n : ℕ) → (0 < n → at + 4 * n ≤ length b) → take (4 * n) (drop at b) ≡ bytesOf (wordsAt b at n)
+unfolding bytesOf wordsAt
+part-read b y at zero h = refl
+part-read b y at (suc n) h = sym (read-spelled b y (suc n) at (h (omega arith)))
+
+part-long : (b : List ℕ) (at n : ℕ) → (0 < n → at + 4 * n ≤ length b) → length (take (4 * n) (drop at b)) ≡ 4 * n
+part-long b at zero h = refl
+part-long b at (suc n) h = length-take-le (4 * suc n) (drop at b) (rw (length-drop at b) (let q = h (omega arith) in omega arith))
+
+-- the running position, in the file's own numbers
+module _ (b : List ℕ) (r : RightHeader b) where
+  pub start-next : (k : ℕ) → k < 9 → startOf (partsOf b) (k + 1) ≡ startOf (partsOf b) k + 4 * wordsIn b k
+  start-next k l = rw (count-is b k l) at (start-more (partsOf b) (sized-of b r) k l)
+
+  pub start-few : (k : ℕ) → startOf (partsOf b) k ≤ 737372
+  start-few k = omega (arith, start-within (partsOf b) (sized-of b r) k, form-most (partsOf b) (sized-of b r))
+
+-- sixteen words in four parts
+fields-joined : (h f : List ℕ)
+    → (((h ++ bytesOf (take 4 f)) ++ bytesOf (take 4 (drop 4 f))) ++ bytesOf (take 4 (drop 8 f))) ++ bytesOf (drop 12 f) ≡ h ++ bytesOf f
+fields-joined h f =
+    let A = take 4 f in
+    let B = take 4 (drop 4 f) in
+    let C = take 4 (drop 8 f) in
+    let e8 : drop 4 (drop 4 f) ≡ drop 8 f = drop-drop 4 4 f in
+    let e12 : drop 4 (drop 8 f) ≡ drop 12 f = drop-drop 4 8 f in
+    let last : C ++ drop 12 f ≡ drop 8 f = ap (λ (x : List ℕ). C ++ x) (sym e12) ∙ take-append-drop 4 (drop 8 f) in
+    let more : B ++ (C ++ drop 12 f) ≡ drop 4 f = ap (λ (x : List ℕ). B ++ x) (last ∙ sym e8) ∙ take-append-drop 4 (drop 4 f) in
+    let all : A ++ (B ++ (C ++ drop 12 f)) ≡ f = ap (λ (x : List ℕ). A ++ x) more ∙ take-append-drop 4 f in
+    simp append-assoc
+    (ap (λ (x : List ℕ). h ++ x)
+    (ap (λ (x : List ℕ). bytesOf A ++ (bytesOf B ++ x)) (sym (bytes-append C (drop 12 f)))
+    ∙ ap (λ (x : List ℕ). bytesOf A ++ x) (sym (bytes-append B (C ++ drop 12 f))) ∙ sym (bytes-append A (B ++ (C ++ drop 12 f))) ∙ ap bytesOf all))
+
+module _ (b : List ℕ) (r : RightHeader b) (y : Bytes b) where
+  first-eight : take 8 b ≡ magic
+  first-eight =
+      let m = header-sound b r in
+      let n : length (take 8 b) ≡ 8 = length-take-le 8 b (omega (arith, m .long)) in
+      ext-getD 0 (take 8 b) magic n (λ i l. let q : i < 8 = omega arith in getD-take 8 b i 0 q ∙ m .word i q)
+
+  -- the first 72 bytes, and a table's bytes
+  head-read : take 72 b ≡ magic ++ bytesOf (1 ∷ partsOf b .floats)
+  unfolding partsOf wordsAt
+  head-read =
+      take-add 8 64 b ∙ ap (λ (l : List ℕ). l ++ take 64 (drop 8 b)) first-eight
+      ∙ ap (λ (l : List ℕ). magic ++ l)
+      (sym (read-spelled b y 16 8 (omega (arith, header-met b r))) ∙ ap (λ (w : ℕ). bytesOf (w ∷ wordsAt b 12 15)) (header-met b r .world))
+
+  table-read : (k : ℕ) → k < 9 → take (4 * wordsIn b k) (drop (u32At b (tableAt floorTables k .offset)) b) ≡ bytesOf (tableOf (partsOf b) k)
+  unfolding tableWords
+  table-read k l = rw (table-is b k l) (part-read b y (u32At b (tableAt floorTables k .offset)) (wordsIn b k) (λ m. table-inside b r k l m .1))
+
+  -- one table more
+  pub table-written : (o out : List ℕ) (k : ℕ) → k < 9 → startOf (partsOf b) (k + 1) ≤ length o → out ≡ over (formUpTo (partsOf b) k) o
+      → put out (startOf (partsOf b) k) (take (4 * wordsIn b k) (drop (u32At b (tableAt floorTables k .offset)) b)) ≡ over (formUpTo (partsOf b) (k + 1)) o
+  table-written o out k l room e =
+      let p = partsOf b in
+      let h = sized-of b r in
+      let n = part-long b (u32At b (tableAt floorTables k .offset)) (wordsIn b k) (λ m. table-inside b r k l m .1) in
+      rw e (over-put (formUpTo p k) o _ (startOf p k) (up-length p h k) (omega (arith, n, start-next b r k l))
+      ∙ ap (λ (d : List ℕ). over d o) (ap (λ (d : List ℕ). formUpTo p k ++ d) (table-read k l) ∙ up-more p h k l))
+
+  -- the header
+  pub head-written : (o : List ℕ) → 136 ≤ length o → let f = fieldsOf (partsOf b) in
+      put (put (put (put (put o 0 (take 72 (drop 0 b))) 72 (bytesOf (take 4 f))) 88 (bytesOf (take 4 (drop 4 f)))) 104 (bytesOf (take 4 (drop 8 f)))) 120 (bytesOf (drop 12 f))
+      ≡ over (formUpTo (partsOf b) 0) o
+  head-written o l =
+      let p = partsOf b in
+      let f = fieldsOf p in
+      let A = bytesOf (take 4 f) in
+      let B = bytesOf (take 4 (drop 4 f)) in
+      let C = bytesOf (take 4 (drop 8 f)) in
+      let D = bytesOf (drop 12 f) in
+      let H = take 72 b in
+      let n : length H ≡ 72 = length-take-le 72 b (omega (arith, header-met b r .long)) in
+      let a : length A ≡ 16 = length-bytes (take 4 f) in
+      let c : length B ≡ 16 = length-bytes (take 4 (drop 4 f)) in
+      let d : length C ≡ 16 = length-bytes (take 4 (drop 8 f)) in
+      let e : length D ≡ 16 = length-bytes (drop 12 f) in
+      let m1 : length (H ++ A) ≡ 88 = length-append H A ∙ omega arith in
+      let m2 : length ((H ++ A) ++ B) ≡ 104 = length-append (H ++ A) B ∙ omega arith in
+      let m3 : length (((H ++ A) ++ B) ++ C) ≡ 120 = length-append ((H ++ A) ++ B) C ∙ omega arith in
+      let first : put o 0 H ≡ over H o = ap (λ (x : List ℕ). put x 0 H) (over-none o) ∙ over-put [] o H 0 refl (omega arith) in
+      rw (
+        first,
+        over-put H o A 72 n (omega arith),
+        over-put (H ++ A) o B 88 m1 (omega arith),
+        over-put ((H ++ A) ++ B) o C 104 m2 (omega arith),
+        over-put (((H ++ A) ++ B) ++ C) o D 120 m3 (omega arith),
+      )
+      (ap (λ (x : List ℕ). over x o) (fields-joined H f ∙ ap (λ (x : List ℕ). x ++ bytesOf f) head-read ∙ up-first p (sized-of b r)))
