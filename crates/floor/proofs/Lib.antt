@@ -1,3 +1,5 @@
 pub mod Order
 pub mod Meaning
 pub mod Answers
+pub mod Rewriting
+pub mod Again

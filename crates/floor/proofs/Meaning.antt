@@ -3,7 +3,8 @@ use mathlib.Core.Path.{_≡_, refl, sym, ap, _∙_}
 use mathlib.Core.Bool.{true, not}
 use mathlib.Core.List.{List}
 use Prim.Native.Nat.{ℕ, _≤_}
-use borrow.Author.Tests.{le-ltb, not-false}
+use lib.Dec.{ltb}
+use borrow.Author.Tests.{le-ltb, ltb-false, not-false}
 use Rattle.verdict.specs.Verdict.{_then_, accepted}
 use Rattle.verdict.specs.Memory.{workSize}
 use Rattle.verdict.specs.declared.Answer.{Answer}
@@ -83,6 +84,11 @@ pub accepted-sound : (b : List ℕ) (room : ℕ) → readerVerdict b room .numbe
 accepted-sound b room z =
     let a = accepted-of b room z in
     record { header = header-sound b (a .header); mesh = a .mesh; nodes = a .nodes; tree = a .tree; boxes = a .boxes; borders = a .borders }
+
+-- work memory enough, where the reader accepts
+pub room-is-enough : (b : List ℕ) (room : ℕ) → readerVerdict b room .number ≡ 0 → workSize ≤ room
+unfolding rule20
+room-is-enough b room z = ltb-false room workSize (unbroken 19 (ltb room workSize) 0 (passed _ _ (rw (by-groups b room) at z) .0))
 
 room-enough : (room : ℕ) → workSize ≤ room → rule20 room ≡ accepted
 unfolding rule20

@@ -2,3 +2,4 @@ pub mod Reader
 pub mod Groups
 pub mod Sound
 pub mod Accepted
+pub mod Rewrite

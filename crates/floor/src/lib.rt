@@ -1,5 +1,6 @@
-// The reader of a floor: rules 1 to 20 in order, and the counts.
+// The reader of a floor: rules 1 to 20 in order, and the counts; and the rewriter, which gives a floor's fixed form.
 use verdict::Answer;
+use verdict::Form;
 ghost use mathlib.Core.Path.{_≡_};
 ghost use Prim.Native.Nat.{_≤_};
 ghost use lib.ListN.{length};
@@ -10,6 +11,7 @@ ghost use Rattle.verdict.specs.Verdict.{accepted};
 ghost use Rattle.mesh.specs.Mesh.{Finite, Cornered};
 ghost use Rattle.tree.specs.Plain.{Closed};
 ghost use Rattle.floor.specs.Reader.{readerVerdict, walkableFaces, answerOf, readerAnswer, readerMemory};
+ghost use Rattle.floor.specs.Rewrite.{rewriteVerdict, rewriteAnswer, rewriteMemory};
 ghost use Rattle.floor.specs.Groups.{rules7to12, rules15to19, rules13to19, rules1to19};
 
 // What the reader answers: a number, a place, and the counts, which are 0 on refusal.
@@ -128,4 +130,39 @@ pub fn read(bytes: &[u8], work: &mut [u8]) -> Floor
         };
     }
     counted(bytes)
+}
+
+// The rewriter's refusals: the reader's, then 40.
+fn rewrite_verdict(bytes: &[u8], work: &mut [u8], out: &[u8]) -> Answer
+    ensures answer { λ r. ⌜ r ≡ rewriteVerdict (now (bytes .entry)) (length (now (work .entry))) (length (now (out .entry))) ⌝ }
+    ensures memory { λ _. ⌜ now (work .exit) ≡ readerMemory (now (work .entry)) ⌝ }
+{
+    let so = read_verdict(bytes, work);
+    if so.number != 0 {
+        return so;
+    }
+    verdict::first_rule(40, out.len() < fixed::form_length(bytes), 0)
+}
+
+// The rewriter: any bytes, any work memory, any output. Of the output nothing is changed on refusal, and nothing past the form.
+pub fn rewrite(bytes: &[u8], work: &mut [u8], out: &mut [u8]) -> Form
+    ensures answer { λ r. ⌜ r ≡ rewriteAnswer (now (bytes .entry)) (length (now (work .entry))) (length (now (out .entry))) ⌝ }
+    ensures memory { λ _. ⌜ now (work .exit) ≡ readerMemory (now (work .entry)) ⌝ }
+    ensures output { λ _. ⌜ now (out .exit) ≡ rewriteMemory (now (bytes .entry)) (length (now (work .entry))) (now (out .entry)) ⌝ }
+{
+    let so = rewrite_verdict(bytes, work, out);
+    if so.number != 0 {
+        return Form {
+            number: so.number,
+            place: so.place,
+            length: 0,
+        };
+    }
+    let length = fixed::form_length(bytes);
+    fixed::write_form(bytes, out);
+    Form {
+        number: 0,
+        place: 0,
+        length: length as u32,
+    }
 }

@@ -1,0 +1,10 @@
+pub mod Records
+pub mod Laying
+pub mod Replays
+pub mod Steps
+pub mod Follows
+pub mod Demand
+pub mod Wishes
+pub mod Area
+pub mod Refused
+pub mod Editable

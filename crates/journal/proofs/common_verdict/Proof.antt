@@ -1,0 +1,12 @@
+-- Two verdicts, one after another. Assumes nothing.
+use borrow.Author.Needs.{needs}
+use Rattle.journal.specs.Step.{rule28}
+use Rattle.journal.proofs.common_verdict.Statement.{statement}
+use Rattle.journal.proofs.common_verdict.Tie as tie
+
+returns : tie.Need-returns
+unfolding rule28
+returns c = cc
+
+pub common-verdict-spec : {M : Type 1} → statement M
+common-verdict-spec = tie.close (tie.spec (search needs) (search needs) (search needs) returns)

@@ -1,0 +1,39 @@
+-- The verdict before the old word is read, then the edit. Assumes nothing.
+use borrow.Author.Needs.{needs}
+use mathlib.Core.Path.{_≡_, sym, ap, _∙_}
+use mir.Syntax.{w32}
+use mir.ValLaws.{toZ-ofZ}
+use denote.Ref.{now}
+use Rattle.verdict.specs.declared.Answer.{Answer}
+use Rattle.journal.specs.Wish.{linkWish, mayLink, transitionWord}
+use Rattle.journal.specs.Step.{lent, commonVerdict, openVerdict}
+use Rattle.journal.specs.Calls.{areaFloor}
+use Rattle.journal.proofs.Steps.{edit-stops, edit-as}
+use Rattle.journal.proofs.link.Statement.{statement}
+use Rattle.journal.proofs.link.Tie as tie
+
+-- what is asked before the old word is read
+opened : (c : tie.After-open-verdict) → let a = c .before .before .before .before .args in c .open-verdict .result ≡ openVerdict areaFloor 2 (a .entry) (lent (now (a .floor)) (now (a .journal)) (a .f) (a .k))
+unfolding openVerdict commonVerdict
+opened c = c .open-verdict .ensures
+
+accepts : (c : tie.Else1) → let a = c .before .before .before .before .before .before .args in openVerdict areaFloor 2 (a .entry) (lent (now (a .floor)) (now (a .journal)) (a .f) (a .k)) .number ≡ 0
+accepts c = ap (λ (x : Answer). x .number) (sym (opened (c .before .before))) ∙ c .if1 .left
+
+returns : tie.Need-returns
+returns c = edit-stops areaFloor _ _ _ _ (opened (c .before .before .before)) (c .before .if1 .taken) (c .stop .ensures)
+
+edit-requires : tie.Need-edit-requires
+edit-requires c κs = accepts (c .before .before .before .before)
+
+returns-2 : tie.Need-returns-2
+returns-2 c =
+    let s = c .before .before .before .before .before .before .before .before .before .before .before .before .before .before .before in
+    let a = s .args in
+    let e = toZ-ofZ w32 (a .transition) (s .fits .transition) in
+    c .before .before .before .before .edit .ensures
+    ∙ edit-as areaFloor (linkWish (a .entry) (a .transition)) _ _ _
+    (c .before .before .before .before .before .before .before .before .may-link .ensures ∙ ap mayLink e) (λ h. c .before .before .before .before .before .before .before .transition-word .ensures (ap mayLink e ∙ h) ∙ ap transitionWord e)
+
+pub link-spec : {M : Type 1} → statement M
+link-spec = tie.close (tie.spec (search needs) (search needs) (search needs) returns (search needs) (search needs) edit-requires (search needs) (search needs) returns-2)

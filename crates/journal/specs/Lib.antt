@@ -1,0 +1,10 @@
+pub mod Record
+pub mod Wish
+pub mod Kind
+pub mod Step
+pub mod Calls
+pub mod Replay
+pub mod Plain
+pub mod Demand
+pub mod Stopped
+pub mod Editable

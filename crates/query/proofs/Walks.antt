@@ -1,0 +1,61 @@
+-- The walk from the root of an accepted floor whose vertices are on the grid: its count is the number of nodes visited, and its face
+-- the lowest of all faces that hold the point. Assumes nothing.
+use mathlib.Core.Path.{_≡_, _∙_}
+use mathlib.Core.List.{List}
+use Prim.Native.Nat.{ℕ, _<_, _≤_}
+use native.Mathlib.Omega.{arith}
+use lib.IntN.{ℤ, natAbs}
+use lib.ListN.{length}
+use Rattle.verdict.specs.Lists.{tally}
+use Rattle.verdict.specs.Lowest.{lowest}
+use Rattle.tables.specs.Parts.{partsOf}
+use Rattle.tree.specs.Nodes.{nodesOf, faceOf}
+use Rattle.tree.specs.Tree.{ends}
+use Rattle.tree.specs.Visits.{visitedCount, least}
+use Rattle.tree.proofs.Deep.{Kids}
+use Rattle.tree.proofs.Count.{length-ends, count-law}
+use Rattle.tree.proofs.Least.{lowest-law}
+use Rattle.verdict.specs.Verdict.{accepted}
+use Rattle.query.specs.Points.{faceHolds, boxHolds, lowestFace, visitedNodes, answerOf, pointOf, Ready}
+use Rattle.query.proofs.Nesting.{nested}
+use Rattle.query.proofs.Sights.{shape, value}
+
+-- no faces: no nodes, none visited, no face
+pub no-faces : (b : List ℕ) → Ready b → (x y : ℤ) → partsOf b .faces ≡ 0 → answerOf accepted 0 0 0 ≡ pointOf accepted (partsOf b) x y
+unfolding pointOf lowestFace visitedNodes visitedCount lowest tally
+no-faces b r x y e = let n : partsOf b .nodes ≡ 0 = omega (arith, r .floor .nodes .count) in rw (e, n)
+
+-- the children of inner nodes are nodes
+pub kids : (b : List ℕ) → Ready b → Kids (nodesOf (partsOf b)) (partsOf b .nodes)
+unfolding Kids nodesOf
+kids b r n l i = (r .floor .closed .left n l i, r .floor .closed .right n l i)
+
+module _ (b : List ℕ) (r : Ready b) (some : 0 < partsOf b .faces) where
+  pub root-under : 0 < partsOf b .nodes
+  root-under = omega (arith, r .floor .nodes .count)
+
+  pub all-few : length (ends (nodesOf (partsOf b)) 64 0) ≤ 8191
+  all-few =
+      omega (arith, length-ends (nodesOf (partsOf b)) (faceOf (partsOf b)) 0 (partsOf b .nodes) (partsOf b .faces) root-under (kids b r) (r .floor .tree), r .floor .sized .nodes)
+
+  module _ (x y : ℤ) where
+    -- THE COUNT: the nodes that the walk sees are those all of whose ancestors' boxes hold x and y
+    pub walk-count : length (ends (shape (partsOf b) x y) 64 0) ≡ visitedNodes (partsOf b) x y
+    unfolding visitedNodes
+    walk-count =
+        count-law (nodesOf (partsOf b)) (faceOf (partsOf b)) 0 (partsOf b .nodes) (partsOf b .faces) root-under (kids b r) (r .floor .tree) (boxHolds (partsOf b) x y)
+
+    -- THE FACE: the least of those that the walk sees is the lowest of all faces
+    pub walk-face : natAbs x ≤ 65536 → natAbs y ≤ 65536
+        → least (partsOf b .faces) (value (partsOf b) x y) (ends (shape (partsOf b) x y) 64 0) ≡ lowestFace (partsOf b) x y
+    unfolding lowestFace
+    walk-face small-x small-y =
+        lowest-law (nodesOf (partsOf b)) (faceOf (partsOf b)) 0 (partsOf b .nodes) (partsOf b .faces) root-under (kids b r) (r .floor .tree) (boxHolds (partsOf b) x y) (faceHolds (partsOf b) x y)
+        (r .floor .closed .face) (nested b r x y small-x small-y)
+
+    -- what the walk has seen, as the answer
+    pub walk-answer : natAbs x ≤ 65536 → natAbs y ≤ 65536 → (c f n : ℕ) → n ≡ partsOf b .faces
+        → c ≡ length (ends (shape (partsOf b) x y) 64 0) → f ≡ least (partsOf b .faces) (value (partsOf b) x y) (ends (shape (partsOf b) x y) 64 0)
+        → answerOf accepted f n c ≡ pointOf accepted (partsOf b) x y
+    unfolding pointOf
+    walk-answer small-x small-y c f n e p q = rw (e, p ∙ walk-count, q ∙ walk-face small-x small-y)

@@ -1,0 +1,3 @@
+pub mod Rules
+pub mod Points
+pub mod Plain
