@@ -34,7 +34,7 @@ use Rattle.floor.proofs.Order as reader
 use Rattle.floor.proofs.Meaning.{accepted-of, accepted-sound, sound-accepted}
 use Rattle.query.specs.declared.Point.{Point}
 use Rattle.query.specs.Rules.{rule29, rule30, offGrid, queryVerdict}
-use Rattle.query.specs.Points.{faceHolds, boxHolds, lowestFace, visitedNodes, answerOf, pointOf, pointAnswer, Ready}
+use Rattle.query.specs.Points.{faceHolds, boxHolds, lowestFace, visitedNodes, replyOf, pointOf, pointAnswer, Ready}
 use Rattle.query.specs.Plain.{Askable, Holds, LowestHolding, BoxHolds, Ancestor, Visited, HowMany, Says}
 use Rattle.query.proofs.Nesting.{on-x, on-y, on-z}
 use Rattle.query.proofs.Replies.{rules29to30, by-groups, near-x, near-y, all-on-grid, ready, on-found, on-none}
@@ -204,14 +204,14 @@ module _ (b : List ℕ) (room : ℕ) (x y : ℤ) where
 
   -- a refusal gives none and 0
   pub query-refused : queryVerdict b room x y .number ≢ 0 → (pointAnswer b room x y .found ≡ 0) × (pointAnswer b room x y .face ≡ 0) × (pointAnswer b room x y .visited ≡ 0)
-  unfolding pointAnswer pointOf answerOf
+  unfolding pointAnswer pointOf replyOf
   query-refused z = rw (ne-eqb (queryVerdict b room x y .number) 0 z) (refl, refl, refl)
 
   -- so does a floor without faces
   pub query-empty : partsOf b .faces ≡ 0 → (pointAnswer b room x y .found ≡ 0) × (pointAnswer b room x y .face ≡ 0) × (pointAnswer b room x y .visited ≡ 0)
   query-empty e =
       decided (ℕ-discrete (queryVerdict b room x y .number) 0)
-      (λ z. rw (← answer z, ← no-faces b (able z) x y e) (unfold answerOf in (refl, refl, refl)))
+      (λ z. rw (← answer z, ← no-faces b (able z) x y e) (unfold replyOf in (refl, refl, refl)))
       query-refused
 
 -- two answers that say it are the same

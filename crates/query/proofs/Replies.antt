@@ -18,22 +18,22 @@ use Rattle.floor.specs.Reader.{readerVerdict}
 use Rattle.floor.specs.Accepted.{Accepted}
 use Rattle.query.specs.declared.Point.{Point}
 use Rattle.query.specs.Rules.{rule29, rule30, offGrid, queryVerdict}
-use Rattle.query.specs.Points.{lowestFace, visitedNodes, answerOf, pointOf, pointAnswer, Ready}
+use Rattle.query.specs.Points.{lowestFace, visitedNodes, replyOf, pointOf, pointAnswer, Ready}
 
 -- a refusal gives its number and place, and 0s
 pub on-refusal : (a : Answer) → 0 < a .number → (face faces visited : ℕ)
-    → _≡_ {A = Point} (record { number = a .number; place = a .place; found = 0; face = 0; visited = 0 }) (answerOf a face faces visited)
-unfolding answerOf
+    → _≡_ {A = Point} (record { number = a .number; place = a .place; found = 0; face = 0; visited = 0 }) (replyOf a face faces visited)
+unfolding replyOf
 on-refusal a z face faces visited = rw (ne-eqb (a .number) 0 (λ (e : a .number ≡ 0). omega arith))
 
 pub on-found : (face faces visited : ℕ) → face < faces
-    → _≡_ {A = Point} (record { number = 0; place = 0; found = 1; face = face; visited = visited }) (answerOf accepted face faces visited)
-unfolding answerOf
+    → _≡_ {A = Point} (record { number = 0; place = 0; found = 1; face = face; visited = visited }) (replyOf accepted face faces visited)
+unfolding replyOf
 on-found face faces visited l = rw (lt-ltb face faces l)
 
 pub on-none : (face faces visited : ℕ) → faces ≤ face
-    → _≡_ {A = Point} (record { number = 0; place = 0; found = 0; face = 0; visited = visited }) (answerOf accepted face faces visited)
-unfolding answerOf
+    → _≡_ {A = Point} (record { number = 0; place = 0; found = 0; face = 0; visited = visited }) (replyOf accepted face faces visited)
+unfolding replyOf
 on-none face faces visited l = rw (le-ltb face faces l)
 
 -- ---- the verdict by its groups: the reader's, then 29 and 30
@@ -46,15 +46,15 @@ unfolding queryVerdict
 by-groups b room x y = then-assoc (readerVerdict b room) (rule29 x y) (rule30 (partsOf b))
 
 -- a refusal, whatever lies behind it
-refusals : (a : Answer) → 0 < a .number → (face faces visited : ℕ) → answerOf a 0 0 0 ≡ answerOf a face faces visited
+refusals : (a : Answer) → 0 < a .number → (face faces visited : ℕ) → replyOf a 0 0 0 ≡ replyOf a face faces visited
 refusals a z face faces visited = sym (on-refusal a z 0 0 0) ∙ on-refusal a z face faces visited
 
-pub refuses : (p : Parts) (x y : ℤ) (a v : Answer) → 0 < a .number → a ≡ v → answerOf a 0 0 0 ≡ pointOf v p x y
+pub refuses : (p : Parts) (x y : ℤ) (a v : Answer) → 0 < a .number → a ≡ v → replyOf a 0 0 0 ≡ pointOf v p x y
 unfolding pointOf
-refuses p x y a v z e = refusals a z (lowestFace p x y) (p .faces) (visitedNodes p x y) ∙ ap (λ (q : Answer). answerOf q (lowestFace p x y) (p .faces) (visitedNodes p x y)) e
+refuses p x y a v z e = refusals a z (lowestFace p x y) (p .faces) (visitedNodes p x y) ∙ ap (λ (q : Answer). replyOf q (lowestFace p x y) (p .faces) (visitedNodes p x y)) e
 
 -- by the reader, or by what follows it
-pub reader-refuses : (b : List ℕ) (room : ℕ) (x y : ℤ) (a : Answer) → 0 < a .number → a ≡ readerVerdict b room → answerOf a 0 0 0 ≡ pointAnswer b room x y
+pub reader-refuses : (b : List ℕ) (room : ℕ) (x y : ℤ) (a : Answer) → 0 < a .number → a ≡ readerVerdict b room → replyOf a 0 0 0 ≡ pointAnswer b room x y
 unfolding pointAnswer
 reader-refuses b room x y a z e =
     refuses (partsOf b) x y a (queryVerdict b room x y) z

@@ -16,12 +16,12 @@ use Rattle.tree.proofs.Deep.{Kids}
 use Rattle.tree.proofs.Count.{length-ends, count-law}
 use Rattle.tree.proofs.Least.{lowest-law}
 use Rattle.verdict.specs.Verdict.{accepted}
-use Rattle.query.specs.Points.{faceHolds, boxHolds, lowestFace, visitedNodes, answerOf, pointOf, Ready}
+use Rattle.query.specs.Points.{faceHolds, boxHolds, lowestFace, visitedNodes, replyOf, pointOf, Ready}
 use Rattle.query.proofs.Nesting.{nested}
 use Rattle.query.proofs.Sights.{shape, value}
 
 -- no faces: no nodes, none visited, no face
-pub no-faces : (b : List ℕ) → Ready b → (x y : ℤ) → partsOf b .faces ≡ 0 → answerOf accepted 0 0 0 ≡ pointOf accepted (partsOf b) x y
+pub no-faces : (b : List ℕ) → Ready b → (x y : ℤ) → partsOf b .faces ≡ 0 → replyOf accepted 0 0 0 ≡ pointOf accepted (partsOf b) x y
 unfolding pointOf lowestFace visitedNodes visitedCount lowest tally
 no-faces b r x y e = let n : partsOf b .nodes ≡ 0 = omega (arith, r .floor .nodes .count) in rw (e, n)
 
@@ -56,6 +56,6 @@ module _ (b : List ℕ) (r : Ready b) (some : 0 < partsOf b .faces) where
     -- what the walk has seen, as the answer
     pub walk-answer : natAbs x ≤ 65536 → natAbs y ≤ 65536 → (c f n : ℕ) → n ≡ partsOf b .faces
         → c ≡ length (ends (shape (partsOf b) x y) 64 0) → f ≡ least (partsOf b .faces) (value (partsOf b) x y) (ends (shape (partsOf b) x y) 64 0)
-        → answerOf accepted f n c ≡ pointOf accepted (partsOf b) x y
+        → replyOf accepted f n c ≡ pointOf accepted (partsOf b) x y
     unfolding pointOf
     walk-answer small-x small-y c f n e p q = rw (e, p ∙ walk-count, q ∙ walk-face small-x small-y)

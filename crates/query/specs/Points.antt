@@ -45,8 +45,8 @@ visitedNodes p x y = visitedCount (nodesOf p) (boxHolds p x y) (p .nodes)
 
 -- an answer: number, place, whether a face was found, the face (0 where none), the nodes visited; the last three are 0 on refusal.
 -- `face` is the lowest face, or the number of faces where there is none
-unfoldable pub answerOf : Answer → ℕ → ℕ → ℕ → Point
-answerOf a face faces visited = record {
+unfoldable pub replyOf : Answer → ℕ → ℕ → ℕ → Point
+replyOf a face faces visited = record {
   number = a .number;
   place = a .place;
   found = ifAccepted a (bit (ltb face faces));
@@ -55,7 +55,7 @@ answerOf a face faces visited = record {
 }
 
 unfoldable pub pointOf : Answer → Parts → ℤ → ℤ → Point
-pointOf a p x y = answerOf a (lowestFace p x y) (p .faces) (visitedNodes p x y)
+pointOf a p x y = replyOf a (lowestFace p x y) (p .faces) (visitedNodes p x y)
 
 unfoldable pub pointAnswer : List ℕ → ℕ → ℤ → ℤ → Point
 pointAnswer b room x y = pointOf (queryVerdict b room x y) (partsOf b) x y

@@ -17,7 +17,7 @@ ghost use Rattle.tree.specs.Visits.{cut, score, least};
 ghost use Rattle.floor.specs.Reader.{readerMemory};
 ghost use Rattle.floor.specs.Accepted.{Accepted};
 ghost use Rattle.query.specs.Rules.{rule29, offGrid, rule30};
-ghost use Rattle.query.specs.Points.{cornerAt, faceHolds, boxHolds, answerOf, pointOf, pointAnswer, Ready, Placed};
+ghost use Rattle.query.specs.Points.{cornerAt, faceHolds, boxHolds, replyOf, pointOf, pointAnswer, Ready, Placed};
 
 // What the query answers: a number, a place, whether a face was found, the face, and how many nodes were visited.
 #[repr(C)]
@@ -230,7 +230,7 @@ fn spot_at(x: i64, y: i64) -> Spot
 // What a walk from the root has seen, as an answer.
 fn told(seen: Seen, faces: usize) -> Point
     requires { ⌜ (seen .count ≤ 8191) × (faces ≤ 4096) ⌝ }
-    ensures { λ r. ⌜ r ≡ answerOf accepted (seen .face) faces (seen .count) ⌝ }
+    ensures { λ r. ⌜ r ≡ replyOf accepted (seen .face) faces (seen .count) ⌝ }
 {
     let visited = seen.count as u32;
     if seen.face < faces {
@@ -268,7 +268,7 @@ fn walked(bytes: &[u8], x: i64, y: i64) -> Point
 // A refusal.
 fn refused(a: Answer) -> Point
     requires { ⌜ 0 < (a .number) ⌝ }
-    ensures { λ r. ⌜ r ≡ answerOf a 0 0 0 ⌝ }
+    ensures { λ r. ⌜ r ≡ replyOf a 0 0 0 ⌝ }
 {
     Point {
         number: a.number,

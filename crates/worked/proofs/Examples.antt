@@ -15,26 +15,34 @@ use Rattle.verdict.specs.Verdict.{rule, ruleOfEach, _then_, refused, accepted}
 use Rattle.verdict.specs.Memory.{workSize}
 use Rattle.verdict.proofs.Bools.{T-true, true-T, and-true}
 use Rattle.verdict.proofs.Verdict.{then-next, then-stop}
-use Rattle.wire.specs.Bytes.{u32At, u32Bytes}
+use Rattle.wire.specs.Bytes.{u32At, u32Bytes, put}
 use Rattle.wire.specs.Words.{wordsAt, bytesOf}
-use Rattle.grid.specs.Grid.{finite, onGrid, scaled, gridFloat, mayNudge, nudgeBits}
-use Rattle.grid.specs.Box.{between, noneOver, holdsPoint, holdsBox, boxOfBits}
+use Rattle.grid.specs.Grid.{finite, onGrid, size64, scaled, gridFloat, mayNudge, nudgeBits}
+use Rattle.grid.specs.Box.{between, noneOver, holdsPoint, holdsBox, holdsXY, boxOfBits}
 use Rattle.grid.specs.Triangle.{inTriangle, sides, allLeft, allRight, cross}
 use Rattle.tables.specs.Tables.{rule5, rule6, outsideAt, outside, spanOf, shares, sharesEarlier}
-use Rattle.tables.specs.Header.{wrongLength, headerVerdict, startsWrong, differs, limit, rule1, rule2, rule3, rule4}
+use Rattle.tables.specs.Header.{wrongLength, headerVerdict, rules2to6, startsWrong, differs, limit, rule1, rule2, rule3, rule4}
 use Rattle.tables.specs.Parts.{partsOf, tableWords, wordOf, wordPlace}
 use Rattle.tables.proofs.Right.{wrong-long}
 use Rattle.mesh.specs.Floats.{wild, wildHead, wildIn, rule7In, rule7}
 use Rattle.mesh.specs.Faces.{wrongCorner, wrongCorners, walkable, strange, misplaced, rule8, rule9, rule10}
 use Rattle.tree.specs.Nodes.{nodesOf, isPlane, isLeaf, isInner, neither, rule11, rule12}
 use Rattle.tree.specs.Tree.{ends, deep, leafFaces, oneTree, rule13}
+use Rattle.tree.specs.Visits.{visitedCount, shown, above}
 use Rattle.tree.specs.Boxes.{boxOf, holdsCorner, holdsFace, holdsChildren, tooSmall, rule14}
 use Rattle.border.specs.Halves.{from, to, runs, repeats, partner, border, pairing, wrongAdjacent, rule15, rule16}
 use Rattle.border.specs.Loops.{standsIn, wrongEdge, missing, rule17, wrongTransition, rule18, loopStart, after, openAt, openRun, wrongLoop, rule19}
 use Rattle.floor.specs.Groups.{rules1to19}
 use Rattle.floor.specs.Reader.{rule20, readerVerdict, walkableFaces, answerOf, readerAnswer}
 use Rattle.floor.proofs.Order.{by-groups}
-use Rattle.worked.specs.Worked.{Deed, read, pair, hold, nudge, told, gives, Case, Right, triangle, square, worked}
+use Rattle.journal.specs.Record.{recordBytes}
+use Rattle.journal.specs.Wish.{permitted}
+use Rattle.journal.specs.Kind.{lay}
+use Rattle.journal.specs.Step.{badSession, rule28, commonVerdict, unless, full, rule21, editRules, editVerdict, editStep}
+use Rattle.journal.specs.Calls.{areaCount, areaField, step, run}
+use Rattle.query.specs.Rules.{rule29, rule30, offGrid, queryVerdict}
+use Rattle.query.specs.Points.{cornerAt, faceHolds, boxHolds, lowestFace, visitedNodes, replyOf, pointOf, pointAnswer}
+use Rattle.worked.specs.Worked.{Deed, read, pair, ask, call, nudge, told, gives, Case, Right, triangle, square, worked}
 
 -- ---- a file that is too long, without its bytes
 
@@ -54,7 +62,8 @@ quick : Deed → List ℕ
 quick (read start zeros) =
     elim (ltb 1048576 (length start + zeros)) [ true ↦ 1 ∷ 0 ∷ 0 ∷ 0 ∷ 0 ∷ 0 ∷ [] | false ↦ gives (read start zeros) ]
 quick (pair file hs) = gives (pair file hs)
-quick (hold ax ay bx by cx cy px py) = gives (hold ax ay bx by cx cy px py)
+quick (ask file x y) = gives (ask file x y)
+quick (call file room cs c) = gives (call file room cs c)
 quick (nudge b n) = gives (nudge b n)
 
 quick-right : (d : Deed) → gives d ≡ quick d
@@ -69,7 +78,8 @@ quick-right (read start zeros) = by (ltb 1048576 (length start + zeros)) refl
     by true e = long-answer b (simp (length-append, length-replicate) (ltb-true _ _ e))
     by false e = refl
 quick-right (pair file hs) = refl
-quick-right (hold ax ay bx by cx cy px py) = refl
+quick-right (ask file x y) = refl
+quick-right (call file room cs c) = refl
 quick-right (nudge b n) = refl
 
 -- ---- the test
@@ -109,7 +119,9 @@ unfolding worked triangle square tested quick gives same
     partsOf tableWords wordOf wordPlace rule7 rule7In wild wildHead wildIn finite ofBits rule8 wrongCorners wrongCorner rule9 strange rule10 misplaced walkable
     rule11 rule12 neither isLeaf isInner isPlane nodesOf rule13 oneTree deep ends leafFaces rule14 tooSmall holdsChildren holdsFace holdsCorner boxOf boxOfBits holdsPoint holdsBox between noneOver le lt eq
     rule15 rule16 repeats partner runs from to wrongAdjacent pairing border rule17 standsIn wrongEdge missing rule18 wrongTransition rule19 wrongLoop loopStart openRun openAt after
-    inTriangle sides allLeft allRight cross mayNudge nudgeBits onGrid scaled gridFloat toBits round
+    pointAnswer pointOf replyOf queryVerdict rule29 rule30 offGrid lowestFace faceHolds cornerAt boxHolds holdsXY visitedNodes visitedCount shown above
+    step run editStep editVerdict editRules commonVerdict headerVerdict rules2to6 rule28 badSession rule21 full unless areaCount areaField lay put recordBytes permitted
+    inTriangle sides allLeft allRight cross size64 mayNudge nudgeBits onGrid scaled gridFloat toBits round
 computed = tt
 
 pub examples : Right worked

@@ -8,30 +8,45 @@ use Rattle.verdict.specs.Lists.{bit}
 use Rattle.verdict.specs.Memory.{workSize}
 use Rattle.wire.specs.Words.{bytesOf}
 use Rattle.grid.specs.Grid.{mayNudge, nudgeBits}
-use Rattle.grid.specs.Triangle.{inTriangle}
 use Rattle.tables.specs.Header.{magic}
 use Rattle.tables.specs.Parts.{partsOf}
 use Rattle.border.specs.Halves.{pairing}
 use Rattle.floor.specs.Reader.{readerAnswer}
 use Rattle.floor.specs.declared.Floor.{Floor}
+use Rattle.query.specs.Points.{pointAnswer}
+use Rattle.journal.specs.Step.{Outcome, lent}
+use Rattle.journal.specs.Calls.{Call, paint, areaFloor, step, run}
+use Rattle.query.specs.declared.Point.{Point}
 
--- what is done: a file of some bytes and then so many zeros is read; half-edges of a file are paired; a triangle is asked for a
--- point, corners and point in sixty-fourths; a float is nudged
+-- what is done: a file of some bytes and then so many zeros is read; half-edges of a file are paired; a floor is asked for the
+-- face under a point, x and y in sixty-fourths; over a floor and an empty journal of so many bytes calls are made and then one more; a
+-- float is nudged
 pub data Deed : Type 0 where
   read : List ℕ → ℕ → Deed
   pair : List ℕ → List ℕ → Deed
-  hold : (ax ay bx by cx cy px py : ℕ) → Deed
+  ask : List ℕ → ℤ → ℤ → Deed
+  call : List ℕ → ℕ → List Call → Call → Deed
   nudge : ℕ → ℤ → Deed
 
 -- the reader's answer: number, place, faces, walkable, edges, perimeters
 abbrev pub told : Floor → List ℕ
 told r = r .number ∷ r .place ∷ r .faces ∷ r .walkable ∷ r .edges ∷ r .perimeters ∷ []
 
--- what a deed gives: the reader's answer; what the adjacency entries should be; 1 or 0; 1 or 0 and the new bits
+-- the query's: number, place, 1 or 0, face, nodes visited
+abbrev pub pointed : Point → List ℕ
+pointed r = r .number ∷ r .place ∷ r .found ∷ r .face ∷ r .visited ∷ []
+
+-- a call's: number, place, f, k, and then the journal's bytes
+abbrev pub called : Outcome → List ℕ
+called o = o .answer .number ∷ o .answer .place ∷ o .answer .f ∷ o .answer .k ∷ o .journal
+
+-- what a deed gives: the reader's answer; what the adjacency entries should be; the query's answer; the last call's answer and the
+-- journal; 1 or 0 and the new bits
 unfoldable pub gives : Deed → List ℕ
 gives (read start zeros) = told (readerAnswer (start ++ replicate zeros 0) workSize)
 gives (pair file hs) = map (pairing (partsOf file)) hs
-gives (hold ax ay bx by cx cy px py) = bit (inTriangle (pos ax) (pos ay) (pos bx) (pos by) (pos cx) (pos cy) (pos px) (pos py)) ∷ []
+gives (ask file x y) = pointed (pointAnswer file workSize x y)
+gives (call file room cs c) = called (step areaFloor c (run areaFloor cs (lent file (replicate room 0) 0 0)))
 gives (nudge b n) = bit (mayNudge b n) ∷ nudgeBits b n ∷ []
 
 pub record Case : Type 0 where
@@ -81,6 +96,10 @@ square a b c d =
     ((0 ∷ 0 ∷ 0 ∷ one ∷ one ∷ 0 ∷ 1 ∷ 4 ∷ 0 ∷ none ∷ none ∷ []) ++
     ((none ∷ 3 ∷ none ∷ 1 ∷ none ∷ none ∷ []) ++ (a ∷ none ∷ b ∷ none ∷ c ∷ none ∷ d ∷ none ∷ 4 ∷ [])))))))))
 
+-- the record of face 0 painted from 4 to 5
+abbrev pub painted : List ℕ
+painted = 1 ∷ 12 ∷ 0 ∷ 0 ∷ 0 ∷ 0 ∷ 0 ∷ 4 ∷ 0 ∷ 0 ∷ 0 ∷ 5 ∷ 0 ∷ 0 ∷ 0 ∷ []
+
 unfoldable pub worked : List Case
 worked =
     case (read header 127) (0 ∷ 0 ∷ 0 ∷ 0 ∷ 0 ∷ 0 ∷ []) ∷  -- W1
@@ -90,10 +109,14 @@ worked =
     case (pair (square 0 4 5 2) (0 ∷ 1 ∷ 2 ∷ 3 ∷ 4 ∷ 5 ∷ [])) (none ∷ 3 ∷ none ∷ 1 ∷ none ∷ none ∷ []) ∷  -- W5
     case (read (square 0 4 5 2) 0) (0 ∷ 0 ∷ 2 ∷ 2 ∷ 4 ∷ 1 ∷ []) ∷  -- W6
     case (read (square 0 5 4 2) 0) (19 ∷ 0 ∷ 0 ∷ 0 ∷ 0 ∷ 0 ∷ []) ∷  -- W7
-    case (hold 0 0 64 0 0 64 32 32) (1 ∷ []) ∷  -- W8
-    case (hold 0 0 64 0 0 64 64 0) (1 ∷ []) ∷
-    case (hold 0 0 64 0 0 64 33 32) (0 ∷ []) ∷
-    case (nudge 0x3FC0_0000 (pos 1)) (1 ∷ 0x3FC2_0000 ∷ []) ∷ []  -- W11
+    case (ask triangle (pos 32) (pos 32)) (0 ∷ 0 ∷ 1 ∷ 0 ∷ 1 ∷ []) ∷  -- W8
+    case (ask triangle (pos 64) (pos 0)) (0 ∷ 0 ∷ 1 ∷ 0 ∷ 1 ∷ []) ∷
+    case (ask triangle (pos 33) (pos 32)) (0 ∷ 0 ∷ 0 ∷ 0 ∷ 1 ∷ []) ∷
+    case (call triangle 15 [] (paint 0 5)) (0 ∷ 0 ∷ 1 ∷ 1 ∷ painted) ∷  -- W9
+    case (call triangle 15 [] (paint 0 7)) (22 ∷ 0 ∷ 0 ∷ 0 ∷ replicate 15 0) ∷  -- W10
+    case (nudge 0x3FC0_0000 (pos 1)) (1 ∷ 0x3FC2_0000 ∷ []) ∷  -- W11
+    case (call triangle 14 [] (paint 0 5)) (25 ∷ 0 ∷ 0 ∷ 0 ∷ replicate 14 0) ∷  -- W12
+    case (call triangle 15 (paint 0 5 ∷ []) (paint 0 4)) (25 ∷ 0 ∷ 1 ∷ 1 ∷ painted) ∷ []
 
 -- the statement: each case gives what the paper says
 abbrev pub Right : List Case → Type 0
