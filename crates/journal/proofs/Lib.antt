@@ -8,3 +8,4 @@ pub mod Wishes
 pub mod Area
 pub mod Refused
 pub mod Editable
+pub mod AcceptedFloors

@@ -8,3 +8,4 @@ pub mod Plain
 pub mod Demand
 pub mod Stopped
 pub mod Editable
+pub mod SoundFloor
