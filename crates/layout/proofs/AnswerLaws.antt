@@ -1,0 +1,166 @@
+-- What the calls answer, case by case. Assumes nothing.
+use mathlib.Core.Path.{_≡_, refl, sym, ap, _∙_}
+use mathlib.Core.Bool.{Bool, true, false, cond, not, _||_}
+use mathlib.Core.List.{List, [], _∷_, map}
+use Prim.Native.Nat.{ℕ, zero, suc, _+_, _≤_, _<_}
+use native.Mathlib.Omega.{arith}
+use lib.Dec.{eqb, ltb}
+use lib.ListN.{length, getD, length-map}
+use borrow.Author.Tests.{lt-ltb, le-ltb}
+use Rattle.verdict.specs.declared.Answer.{Answer}
+use Rattle.verdict.specs.declared.Form.{Form}
+use Rattle.verdict.specs.Verdict.{accepted, refused, rule, _then_}
+use Rattle.verdict.proofs.Verdict.{then-next, then-stop}
+use Rattle.text.specs.Scan.{words, lineAt}
+use Rattle.text.specs.Name.{isName, lowered}
+use Rattle.layout.specs.declared.Layout.{Layout}
+use Rattle.layout.specs.declared.Rooms.{Rooms}
+use Rattle.layout.specs.Grammar.{Word, Line, nth, namesOf}
+use Rattle.layout.specs.Layout.{layoutVerdict, layoutOf, entryOf, partsOf, partsOfTyped, formText}
+use Rattle.layout.specs.Rewrite.{renamed, renamedForm, knownBut, roomNames, roomsOf, rule40, rewriteVerdict, renameVerdict}
+use Rattle.layout.specs.Caption.{hasRoom, roomName, captionOf, captionNumber}
+use Rattle.layout.specs.Starts.{entryAt, held, Named, keptName, Answered}
+use Rattle.layout.proofs.EachLaws.{length-names}
+use Rattle.layout.proofs.ReadLaws.{layout-good, verdict-proper}
+use Rattle.layout.proofs.HeldLaws.{held-long, room-name, rooms-named}
+use Rattle.layout.proofs.FormTrip.{form-within}
+use Rattle.layout.proofs.LengthLaws.{form-short}
+use Rattle.layout.proofs.RenameLaws.{renamed-past, renamed-good}
+use Rattle.layout.proofs.WholeLaws.{Answers, refused-form}
+
+-- ---- the rooms of a layout, by what the reader answered
+
+module _ (s : List ℕ) (r : Layout) (sized : length (r .starts) ≡ 192) (a : Answered s r) where
+  pub rooms-are : r .rooms ≡ length (roomNames s)
+  unfolding roomNames
+  rooms-are = omega (arith, length-names (layoutOf s .rooms), ap length (a .held .rooms), held-long s (r .starts) 0 (r .rooms) (omega (arith, a .held .few-rooms)))
+
+  pub names-are : namesOf (held s (r .starts) 0 (r .rooms)) ≡ roomNames s
+  unfolding roomNames
+  names-are = ap namesOf (a .held .rooms)
+
+  pub rooms-have-names : Named s (r .starts) (r .rooms)
+  rooms-have-names = rooms-named s (r .starts) (r .rooms) (omega (arith, a .held .few-rooms)) (rw (a .held .rooms) (layout-good s .rooms))
+
+  pub verdict-is : layoutVerdict s ≡ refused (r .number) (r .place)
+  verdict-is = sym (a .verdict)
+
+  pub verdict-accepts : r .number ≡ 0 → layoutVerdict s ≡ accepted
+  verdict-accepts z = verdict-proper s .at-0 (ap (λ (v : Answer). v .number) verdict-is ∙ z)
+
+  -- ---- captions
+
+  pub has-it : (i : ℕ) → i < r .rooms → hasRoom s i ≡ true
+  unfolding hasRoom
+  has-it i h = lt-ltb i (length (roomNames s)) (omega (arith, rooms-are))
+
+  pub has-none : (i : ℕ) → r .rooms ≤ i → hasRoom s i ≡ false
+  unfolding hasRoom
+  has-none i h = le-ltb i (length (roomNames s)) (omega (arith, rooms-are))
+
+  pub its-name : (i : ℕ) (l u : List ℕ) → i < r .rooms → l ≡ lineAt s (getD (r .starts) i 0) → u ≡ nth (words l) 0 → u ≡ roomName s i
+  unfolding roomName
+  its-name i l u h el eu =
+      eu ∙ rw (el, ← names-are) (sym (room-name s (r .starts) (r .rooms) i (omega (arith, a .held .few-rooms)) h))
+
+  -- the name at a kept start is the room's
+  pub kept-name : (k : ℕ) → k < r .rooms → keptName s (r .starts) k ≡ roomName s k
+  unfolding keptName
+  kept-name k h = rw (lt-ltb k (length (r .starts)) (omega (arith, a .held .few-rooms))) (its-name k _ _ h refl refl)
+
+  pub rooms-told : _≡_ {A = Rooms} (record { number = r .number; place = r .place; rooms = r .rooms }) (roomsOf s)
+  unfolding roomsOf
+  rooms-told = rw (verdict-is, ← rooms-are)
+
+  -- ---- rewriting
+
+  pub rewrite-refused : (o text : List ℕ) → (r .number ≡ 0 → ⊥) → Answers (record { number = r .number; place = r .place; length = 0 }) o (rewriteVerdict s (length o)) text o
+  rewrite-refused o text z = refused-form (rewriteVerdict s (length o)) text o _ _ (stop ∙ verdict-is) z
+    where
+      stop : rewriteVerdict s (length o) ≡ layoutVerdict s
+      stop = unfold rewriteVerdict in (then-stop (layoutVerdict s) (λ y. z (sym (ap (λ (v : Answer). v .number) verdict-is) ∙ y)) _)
+
+  own-name : (w : Word) → renamed (partsOf s) 64 w ≡ partsOf s
+  unfolding renamed partsOf partsOfTyped
+  own-name w = rw (renamed-past (map entryOf (layoutOf s .rooms)) 64 (lowered w) (omega (arith, length-map (layoutOf s .rooms) entryOf, layout-good s .few-rooms)))
+
+  pub own-short : (w : Word) → length (renamedForm s 64 w) ≤ 12000
+  own-short w = rw (own-name w) (form-within s)
+
+  pub rewrite-by : (w : Word) (f : Form) (new o : List ℕ) → r .number ≡ 0 → Answers f new (rule40 (renamedForm s 64 w) (length o)) (renamedForm s 64 w) o → Answers f new (rewriteVerdict s (length o)) (formText (partsOf s)) o
+  unfolding rewriteVerdict
+  rewrite-by w f new o z h =
+      let n = then-next (layoutVerdict s) (rule40 (formText (partsOf s)) (length o)) (ap (λ (v : Answer). v .number) (verdict-accepts z)) in
+      rw n (rw (own-name w) at h)
+
+  -- ---- with another name
+
+  module _ (i : ℕ) (w : Word) (o : List ℕ) where
+    pub rename-refused : (r .number ≡ 0 → ⊥) → Answers (record { number = r .number; place = r .place; length = 0 }) o (renameVerdict s i w (length o)) (renamedForm s i w) o
+    rename-refused z = refused-form (renameVerdict s i w (length o)) (renamedForm s i w) o _ _ (stop ∙ verdict-is) z
+      where
+        n : layoutVerdict s .number ≡ 0 → ⊥
+        n y = z (sym (ap (λ (v : Answer). v .number) verdict-is) ∙ y)
+
+        stop : renameVerdict s i w (length o) ≡ layoutVerdict s
+        stop = unfold renameVerdict in (rw (then-stop (layoutVerdict s) n, then-stop (layoutVerdict s) n, then-stop (layoutVerdict s) n) (then-stop (layoutVerdict s) n _))
+
+    module _ (z : r .number ≡ 0) where
+      pub rename-21 : r .rooms ≤ i → Answers (record { number = 21; place = i; length = 0 }) o (renameVerdict s i w (length o)) (renamedForm s i w) o
+      rename-21 h = refused-form _ (renamedForm s i w) o 21 i to (λ y. omega arith)
+        where
+          to : renameVerdict s i w (length o) ≡ refused 21 i
+          to = unfold renameVerdict rule _then_ in (rw (verdict-accepts z, le-ltb i (length (roomNames s)) (omega (arith, rooms-are))))
+
+      module _ (h : i < r .rooms) where
+        inside : ltb i (length (roomNames s)) ≡ true
+        inside = lt-ltb i (length (roomNames s)) (omega (arith, rooms-are))
+
+        pub rename-34 : isName w ≡ false → Answers (record { number = 34; place = 0; length = 0 }) o (renameVerdict s i w (length o)) (renamedForm s i w) o
+        rename-34 e = refused-form _ (renamedForm s i w) o 34 0 to (λ y. omega arith)
+          where
+            to : renameVerdict s i w (length o) ≡ refused 34 0
+            to = unfold renameVerdict rule _then_ in (rw (verdict-accepts z, inside, e))
+
+        module _ (e : isName w ≡ true) (k : Bool) (ek : k ≡ knownBut i w (namesOf (held s (r .starts) 0 (r .rooms)))) where
+          known-is : (t : Bool) → k ≡ t → knownBut i w (roomNames s) ≡ t
+          known-is t q = rw (← names-are) (sym ek ∙ q)
+
+          pub rename-37 : k ≡ true → Answers (record { number = 37; place = 0; length = 0 }) o (renameVerdict s i w (length o)) (renamedForm s i w) o
+          rename-37 q = refused-form _ (renamedForm s i w) o 37 0 to (λ y. omega arith)
+            where
+              to : renameVerdict s i w (length o) ≡ refused 37 0
+              to = unfold renameVerdict rule _then_ in (rw (verdict-accepts z, inside, e, known-is true q))
+
+          pub rename-short : k ≡ false → length (renamedForm s i w) ≤ 12000
+          rename-short q = form-short (renamed (partsOf s) i w) (renamed-good s i w e (known-is false q))
+
+          pub rename-by : (f : Form) (new : List ℕ) → k ≡ false → Answers f new (rule40 (renamedForm s i w) (length o)) (renamedForm s i w) o → Answers f new (renameVerdict s i w (length o)) (renamedForm s i w) o
+          rename-by f new q h = rw to h
+            where
+              to : renameVerdict s i w (length o) ≡ rule40 (renamedForm s i w) (length o)
+              to = unfold renameVerdict rule _then_ in (rw (verdict-accepts z, inside, e, known-is false q))
+
+-- ---- captions, in order
+
+pub caption-first : (v h : List ℕ) (i : ℕ) (u : List ℕ) → hasRoom v i ≡ true → u ≡ roomName v i → (u ≡ captionOf v h i) × (0 ≡ captionNumber v h i)
+unfolding captionOf captionNumber
+caption-first v h i u p e = (rw p e, rw p)
+
+pub caption-second : (v h : List ℕ) (i : ℕ) (u : List ℕ) → hasRoom v i ≡ false → hasRoom h i ≡ true → u ≡ roomName h i → (u ≡ captionOf v h i) × (0 ≡ captionNumber v h i)
+unfolding captionOf captionNumber
+caption-second v h i u p q e = (rw (p, q) e, rw (p, q))
+
+pub caption-none : (v h : List ℕ) (i : ℕ) → hasRoom v i ≡ false → hasRoom h i ≡ false → ([] ≡ captionOf v h i) × (41 ≡ captionNumber v h i)
+unfolding captionOf captionNumber
+caption-none v h i p q = (rw (p, q), rw (p, q))
+
+-- ---- the name at a kept start
+
+pub kept-some-name : (s starts : List ℕ) (k : ℕ) (l u : List ℕ) → k < length starts → l ≡ lineAt s (getD starts k 0) → u ≡ nth (words l) 0 → u ≡ keptName s starts k
+unfolding keptName
+kept-some-name s starts k l u h el eu = eu ∙ rw (lt-ltb k (length starts) h, el)
+
+pub kept-no-name : (s starts : List ℕ) (k : ℕ) → length starts ≤ k → [] ≡ keptName s starts k
+unfolding keptName
+kept-no-name s starts k h = rw (le-ltb k (length starts) h)

@@ -1,0 +1,90 @@
+-- Lists whose entries all have a property, and lists of names of which no two are the same. Assumes nothing.
+use mathlib.Core.Path.{_≡_, refl, sym, ap, _∙_}
+use mathlib.Core.Bool.{Bool, true, false, cond}
+use mathlib.Core.List.{List, [], _∷_, _++_, map, map-append}
+use mathlib.Core.Logic.{⊎-elim}
+use Prim.Native.Nat.{ℕ, zero, suc, _+_, _≤_, _<_}
+use native.Mathlib.Nat.{eq-or-lt-of-le, le-of-suc-le-suc}
+use native.Mathlib.Omega.{arith}
+use lib.ListN.{length, getD, length-append, length-map, List·getD-append}
+use lib.Seq.{getD-append-add}
+use Rattle.verdict.proofs.Lists.{map-at}
+use Rattle.verdict.proofs.Lowest.{none-under, under-none}
+use Rattle.text.specs.Name.{sameName}
+use Rattle.layout.specs.Grammar.{Word, Line, nth, namesOf, known}
+
+-- each entry has it
+abbrev pub Each : {A : Type 0} → (A → Type 0) → List A → Type 0
+Each P [] = Unit
+Each P (x ∷ xs) = P x × Each P xs
+
+pub each-more : {A : Type 0} (P : A → Type 0) (xs : List A) (x : A) → Each P xs → P x → Each P (xs ++ (x ∷ []))
+each-more P [] x h p = (p, tt)
+each-more P (y ∷ xs) x (q, h) p = (q, each-more P xs x h p)
+
+pub each-at : {A : Type 0} (P : A → Type 0) (d : A) (xs : List A) → Each P xs → (k : ℕ) → k < length xs → P (getD xs k d)
+each-at P d [] h k l = absurd (omega arith)
+each-at P d (x ∷ xs) (p, h) zero l = p
+each-at P d (x ∷ xs) (p, h) (suc k) l = each-at P d xs h k (le-of-suc-le-suc l)
+
+pub each-map : {A B : Type 0} (P : A → Type 0) (Q : B → Type 0) (f : A → B) → ((x : A) → P x → Q (f x)) → (xs : List A) → Each P xs → Each Q (map f xs)
+each-map P Q f g [] h = tt
+each-map P Q f g (x ∷ xs) (p, h) = (g x p, each-map P Q f g xs h)
+
+-- ---- the last of a list
+
+pub getD-last : {A : Type 0} (d : A) (xs : List A) (x : A) → getD (xs ++ (x ∷ [])) (length xs) d ≡ x
+getD-last d [] x = refl
+getD-last d (y ∷ xs) x = getD-last d xs x
+
+pub getD-first : {A : Type 0} (d : A) (xs ys : List A) (i : ℕ) → i < length xs → getD (xs ++ ys) i d ≡ getD xs i d
+getD-first d [] ys i l = absurd (omega arith)
+getD-first d (x ∷ xs) ys zero l = refl
+getD-first d (x ∷ xs) ys (suc i) l = getD-first d xs ys i (le-of-suc-le-suc l)
+
+pub getD-mid : {A : Type 0} (d : A) (xs ys : List A) (y : A) → getD (xs ++ (y ∷ ys)) (length xs) d ≡ y
+getD-mid d [] ys y = refl
+getD-mid d (x ∷ xs) ys y = getD-mid d xs ys y
+
+-- ---- names
+
+pub length-names : (es : List Line) → length (namesOf es) ≡ length es
+unfolding namesOf
+length-names es = length-map es (λ (e : Line). nth e 0)
+
+pub names-more : (es : List Line) (e : Line) → namesOf (es ++ (e ∷ [])) ≡ namesOf es ++ (nth e 0 ∷ [])
+unfolding namesOf
+names-more es e = map-append (λ (l : Line). nth l 0) es (e ∷ [])
+
+pub names-at : (es : List Line) (j : ℕ) → j < length es → getD (namesOf es) j [] ≡ nth (getD es j []) 0
+unfolding namesOf
+names-at es j l = map-at (λ (e : Line). nth e 0) [] [] es j l
+
+-- no two names are the same
+pub record Apart (names : List Word) : Type 0 where
+  pub other : (i j : ℕ) → i < j → j < length names → sameName (getD names j []) (getD names i []) ≡ false
+
+pub apart-none : Apart []
+apart-none = record { other = λ i j l m. absurd (omega arith) }
+
+pub apart-more : (names : List Word) (w : Word) → Apart names → known w names ≡ false → Apart (names ++ (w ∷ []))
+unfolding known
+apart-more names w a k = record { other = go }
+  where
+    new : (i : ℕ) → i < length names → sameName (getD (names ++ (w ∷ [])) (length names) []) (getD (names ++ (w ∷ [])) i []) ≡ false
+    new i l =
+        rw (getD-last [] names w, getD-first [] names (w ∷ []) i l) (none-under (λ (j : ℕ). sameName w (getD names j [])) (length names) k i l)
+
+    go : (i j : ℕ) → i < j → j < length (names ++ (w ∷ [])) → sameName (getD (names ++ (w ∷ [])) j []) (getD (names ++ (w ∷ [])) i []) ≡ false
+    go i j l m =
+        let n : length (names ++ (w ∷ [])) ≡ length names + 1 = length-append names (w ∷ []) in
+        ⊎-elim (λ (e : j ≡ length names). rw e (new i (omega arith)))
+        (λ (h : j < length names). rw (getD-first [] names (w ∷ []) j h, getD-first [] names (w ∷ []) i (omega arith)) (a .other i j l h))
+        (eq-or-lt-of-le (le-of-suc-le-suc (omega arith)))
+
+-- a name is not one of those before it
+pub apart-before : (done : List Word) (w : Word) (more : List Word) → Apart (done ++ (w ∷ more)) → known w done ≡ false
+unfolding known
+apart-before done w more a =
+    under-none (λ (j : ℕ). sameName w (getD done j [])) (length done)
+    (λ j l. rw (getD-mid [] done more w, getD-first [] done (w ∷ more) j l) at (a .other j (length done) l (omega (arith, length-append done (w ∷ more)))))

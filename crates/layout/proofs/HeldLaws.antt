@@ -1,0 +1,141 @@
+-- The entries that the code keeps by their starts: how many, which, and the state behind a line. Assumes nothing.
+use mathlib.Core.Path.{_≡_, refl, sym, ap, _∙_}
+use mathlib.Core.Logic.{_⊎_, inl, inr, ⊎-elim}
+use mathlib.Core.Bool.{Bool, true, false, cond, not, _&&_}
+use mathlib.Core.List.{List, [], _∷_, _++_, map, map-append}
+use Prim.Native.Nat.{ℕ, zero, suc, _+_, _-_, _≤_, _<_}
+use native.Mathlib.Nat.{add-zero}
+use native.Mathlib.Numerals.{add-one}
+use native.Mathlib.Omega.{arith}
+use native.Mathlib.Decide.{ℕ-discrete}
+use lib.Dec.{eqb, ltb}
+use lib.ListN.{length, getD, take, drop, set, length-map, length-drop}
+use lib.Seq.{take-suc-set, length-take-le, drop-set-add, drop-set-lt, take-set-le, getD-take, getD-drop}
+use borrow.Author.Tests.{eq-eqb, ne-eqb, lt-ltb, le-ltb}
+use Rattle.verdict.specs.Lowest.{lowest, anyUnder}
+use Rattle.verdict.proofs.Bools.{test, decided, clash}
+use Rattle.verdict.proofs.Lists.{map-at}
+use Rattle.verdict.proofs.Lowest.{any-hit, any-none, any-same}
+use Rattle.text.specs.Scan.{words, lineAt}
+use Rattle.text.specs.Name.{isName, sameName}
+use Rattle.text.specs.Count.{value, isCount}
+use Rattle.layout.specs.declared.Progress.{Progress}
+use Rattle.layout.specs.Grammar.{Word, Line, nth, namesOf, known, opens}
+use Rattle.layout.specs.Rewrite.{knownBut}
+use Rattle.layout.specs.Starts.{entryAt, held, Named, countIn, entered, movedTo, slotOf, kept}
+use Rattle.layout.proofs.EachLaws.{Each, each-at, length-names, names-at}
+use Rattle.layout.proofs.GoodLaws.{GoodLine}
+
+-- ---- how many entries are kept, and which
+
+pub held-long : (s starts : List ℕ) (from n : ℕ) → from + n ≤ length starts → length (held s starts from n) ≡ n
+unfolding held
+held-long s starts from n h =
+    length-map (take n (drop from starts)) (entryAt s) ∙ length-take-le n (drop from starts) (omega (arith, length-drop from starts))
+
+pub held-at : (s starts : List ℕ) (from n j : ℕ) → from + n ≤ length starts → j < n → getD (held s starts from n) j [] ≡ entryAt s (getD starts (from + j) 0)
+unfolding held
+held-at s starts from n j h l =
+    let k : length (take n (drop from starts)) ≡ n = length-take-le n (drop from starts) (omega (arith, length-drop from starts)) in
+    map-at (entryAt s) 0 [] (take n (drop from starts)) j (omega arith) ∙ rw (getD-take n (drop from starts) j 0 l, getD-drop)
+
+-- rooms are kept from 0 on
+pub room-at : (s starts : List ℕ) (n j : ℕ) → n ≤ length starts → j < n → getD (held s starts 0 n) j [] ≡ entryAt s (getD starts j 0)
+room-at s starts n j h l = let z : 0 + j ≡ j = omega arith in held-at s starts 0 n j (omega arith) l ∙ rw z
+
+pub room-name : (s starts : List ℕ) (n j : ℕ) → n ≤ length starts → j < n → getD (namesOf (held s starts 0 n)) j [] ≡ nth (entryAt s (getD starts j 0)) 0
+room-name s starts n j h l =
+    names-at (held s starts 0 n) j (omega (arith, held-long s starts 0 n (omega arith))) ∙ ap (λ (e : Line). nth e 0) (room-at s starts n j h l)
+
+pub rooms-named : (s starts : List ℕ) (n : ℕ) → n ≤ length starts → Each GoodLine (held s starts 0 n) → Named s starts n
+rooms-named s starts n h g = record {
+  name = λ j l. rw (room-at s starts n j h l) at (each-at GoodLine [] (held s starts 0 n) g j (omega (arith, held-long s starts 0 n (omega arith))) .name);
+}
+
+-- ---- one of them has a name
+
+pub named-not : (j but : ℕ) (t : Bool) → j ≡ but → false ≡ (not (eqb j but) && t)
+named-not j but t e = rw (eq-eqb j but e)
+
+pub named-by : (j but : ℕ) (w s starts l u : List ℕ) (r : Bool) → (j ≡ but → ⊥) → l ≡ lineAt s (getD starts j 0) → u ≡ nth (words l) 0 → r ≡ sameName w u → r ≡ (not (eqb j but) && sameName w (nth (entryAt s (getD starts j 0)) 0))
+named-by j but w s starts l u r n el eu er = er ∙ rw (eu, el, ne-eqb j but n)
+
+pub named-asked : (s starts l u : List ℕ) (j : ℕ) → l ≡ lineAt s (getD starts j 0) → u ≡ nth (words l) 0 → isName (nth (entryAt s (getD starts j 0)) 0) ≡ true → isName u ≡ true
+named-asked s starts l u j el eu h = rw (eu, el) h
+
+-- entry m, if it is another than `but`, has the name
+abbrev pub another : ℕ → Word → List Word → ℕ → Bool
+another but w names m = not (eqb m but) && sameName w (getD names m [])
+
+pub known-turn : (s starts w : List ℕ) (n but j : ℕ) (r t : Bool) → n ≤ length starts → j < n → r ≡ (not (eqb j but) && sameName w (nth (entryAt s (getD starts j 0)) 0)) → r ≡ t → another but w (namesOf (held s starts 0 n)) j ≡ t
+known-turn s starts w n but j r t h l er et = rw (room-name s starts n j h l) (sym er ∙ et)
+
+pub known-hit : (s starts w : List ℕ) (n but j : ℕ) → n ≤ length starts → j < n → lowest j (another but w (namesOf (held s starts 0 n))) ≡ j → another but w (namesOf (held s starts 0 n)) j ≡ true → true ≡ knownBut but w (namesOf (held s starts 0 n))
+unfolding knownBut
+known-hit s starts w n but j h l i t =
+    any-hit (another but w (namesOf (held s starts 0 n))) j _ i t (omega (arith, length-names (held s starts 0 n), held-long s starts 0 n (omega arith)))
+
+pub known-none : (s starts w : List ℕ) (n but j : ℕ) → n ≤ length starts → n ≤ j → lowest j (another but w (namesOf (held s starts 0 n))) ≡ j → false ≡ knownBut but w (namesOf (held s starts 0 n))
+unfolding knownBut
+known-none s starts w n but j h l i =
+    any-none (another but w (namesOf (held s starts 0 n))) j _ i (omega (arith, length-names (held s starts 0 n), held-long s starts 0 n (omega arith)))
+
+-- none is left out where there are no more than 64
+pub known-all : (w : Word) (names : List Word) → length names ≤ 64 → knownBut 64 w names ≡ known w names
+unfolding knownBut known
+known-all w names h =
+    any-same (length names) _ _ (λ k l. ap (λ (t : Bool). not t && sameName w (getD names k [])) (ne-eqb k 64 (λ z. omega arith)))
+
+-- ---- the code's state behind a line
+
+module _ (c : Progress) where
+  pub entered-room : c .sect ≡ 2 → _≡_ {A = Progress} (record { sect = c .sect; left = c .left - 1; rooms = c .rooms + 1; tracks = c .tracks; obstacles = c .obstacles }) (entered c)
+  unfolding entered
+  entered-room e = rw (eq-eqb (c .sect) 2 e, ne-eqb (c .sect) 3 (λ z. omega arith), ne-eqb (c .sect) 4 (λ z. omega arith))
+
+  pub entered-track : c .sect ≡ 3 → _≡_ {A = Progress} (record { sect = c .sect; left = c .left - 1; rooms = c .rooms; tracks = c .tracks + 1; obstacles = c .obstacles }) (entered c)
+  unfolding entered
+  entered-track e = rw (eq-eqb (c .sect) 3 e, ne-eqb (c .sect) 2 (λ z. omega arith), ne-eqb (c .sect) 4 (λ z. omega arith))
+
+  pub entered-obstacle : c .sect ≡ 4 → _≡_ {A = Progress} (record { sect = c .sect; left = c .left - 1; rooms = c .rooms; tracks = c .tracks; obstacles = c .obstacles + 1 }) (entered c)
+  unfolding entered
+  entered-obstacle e = rw (eq-eqb (c .sect) 4 e, ne-eqb (c .sect) 2 (λ z. omega arith), ne-eqb (c .sect) 3 (λ z. omega arith))
+
+  pub entered-other : (c .sect ≡ 2 → ⊥) → (c .sect ≡ 3 → ⊥) → (c .sect ≡ 4 → ⊥) → _≡_ {A = Progress} (record { sect = c .sect; left = c .left - 1; rooms = c .rooms; tracks = c .tracks; obstacles = c .obstacles }) (entered c)
+  unfolding entered
+  entered-other a b d = rw (ne-eqb (c .sect) 2 a, ne-eqb (c .sect) 3 b, ne-eqb (c .sect) 4 d)
+
+  pub moved-blank : (ws : Line) → length ws ≡ 0 → c ≡ movedTo c ws
+  unfolding movedTo
+  moved-blank [] e = refl
+  moved-blank (w ∷ ws) e = absurd (omega arith)
+
+  pub moved-entry : (ws : Line) (r : Progress) → (length ws ≡ 0 → ⊥) → 0 < c .left → r ≡ entered c → r ≡ movedTo c ws
+  unfolding movedTo
+  moved-entry [] r n l e = absurd (n refl)
+  moved-entry (w ∷ ws) r n l e = rw (lt-ltb 0 (c .left) l) e
+
+  pub moved-open : (ws : Line) (u v : Word) (k n : ℕ) → (length ws ≡ 0 → ⊥) → c .left ≤ 0 → u ≡ nth ws 0 → k ≡ opens (c .sect) u → v ≡ nth ws 1 → n ≡ countIn v → _≡_ {A = Progress} (record { sect = k; left = n; rooms = c .rooms; tracks = c .tracks; obstacles = c .obstacles }) (movedTo c ws)
+  unfolding movedTo
+  moved-open [] u v k n o l eu ek ev en = absurd (o refl)
+  moved-open (w ∷ ws) u v k n o l eu ek ev en = rw (le-ltb 0 (c .left) l, ek, eu, en, ev)
+
+  pub slot-room : c .sect ≡ 2 → c .rooms ≡ slotOf c
+  unfolding slotOf
+  slot-room e = rw (eq-eqb (c .sect) 2 e)
+
+  pub slot-track : (c .sect ≡ 2 → ⊥) → c .sect ≡ 3 → 64 + c .tracks ≡ slotOf c
+  unfolding slotOf
+  slot-track n e = rw (ne-eqb (c .sect) 2 n, eq-eqb (c .sect) 3 e)
+
+  pub slot-obstacle : (c .sect ≡ 2 → ⊥) → (c .sect ≡ 3 → ⊥) → 128 + c .obstacles ≡ slotOf c
+  unfolding slotOf
+  slot-obstacle n m = rw (ne-eqb (c .sect) 2 n, ne-eqb (c .sect) 3 m)
+
+  pub kept-none : (starts : List ℕ) (at : ℕ) → c .left ≡ 0 → starts ≡ kept starts c at
+  unfolding kept
+  kept-none starts at e = rw (le-ltb 0 (c .left) (omega arith))
+
+  pub kept-some : (starts : List ℕ) (at i : ℕ) → (c .left ≡ 0 → ⊥) → i ≡ slotOf c → set starts i at ≡ kept starts c at
+  unfolding kept
+  kept-some starts at i n e = rw (lt-ltb 0 (c .left) (omega arith), e)

@@ -1,0 +1,170 @@
+-- A line's words and faults, at the values that the code has in hand. Assumes nothing.
+use mathlib.Core.Path.{_≡_, refl, sym, ap, _∙_}
+use mathlib.Core.Bool.{Bool, true, false, cond, not, _&&_, _||_}
+use mathlib.Core.List.{List, [], _∷_}
+use Prim.Native.Nat.{ℕ, zero, suc, _+_, _-_, _≤_, _<_}
+use native.Mathlib.Omega.{arith}
+use lib.Dec.{eqb, leb, ltb}
+use lib.ListN.{length}
+use borrow.Author.Tests.{eqb-true, eq-eqb, ne-eqb, le-leb, lt-leb, lt-ltb, le-ltb}
+use Rattle.verdict.proofs.Bools.{clash, test, same-test}
+use Rattle.text.specs.declared.Num.{Num}
+use Rattle.text.specs.Class.{within}
+use Rattle.text.specs.Name.{same, isName}
+use Rattle.text.specs.Count.{value, isCount}
+use Rattle.text.specs.Number.{numberOf}
+use Rattle.layout.specs.Grammar.{Word, Line, nth, State, sectionOf, follows, opens, placed, wordsOf, countRight, openFault, entryFault, fault, namesOf, known, beginlayout, roomcount, trackcount, obstaclecount, doorhookcount, donelayout}
+use Rattle.layout.specs.Starts.{countIn}
+
+-- ---- keywords
+
+module _ (w : Word) where
+  pub section-1 : same w beginlayout ≡ true → 1 ≡ sectionOf w
+  unfolding sectionOf
+  section-1 a = rw a
+
+  module _ (a : same w beginlayout ≡ false) where
+    pub section-2 : same w roomcount ≡ true → 2 ≡ sectionOf w
+    unfolding sectionOf
+    section-2 b = rw (a, b)
+
+    module _ (b : same w roomcount ≡ false) where
+      pub section-3 : same w trackcount ≡ true → 3 ≡ sectionOf w
+      unfolding sectionOf
+      section-3 c = rw (a, b, c)
+
+      module _ (c : same w trackcount ≡ false) where
+        pub section-4 : same w obstaclecount ≡ true → 4 ≡ sectionOf w
+        unfolding sectionOf
+        section-4 d = rw (a, b, c, d)
+
+        module _ (d : same w obstaclecount ≡ false) where
+          pub section-5 : same w doorhookcount ≡ true → 5 ≡ sectionOf w
+          unfolding sectionOf
+          section-5 e = rw (a, b, c, d, e)
+
+          pub section-6 : same w doorhookcount ≡ false → same w donelayout ≡ true → 6 ≡ sectionOf w
+          unfolding sectionOf
+          section-6 e f = rw (a, b, c, d, e, f)
+
+          pub section-0 : same w doorhookcount ≡ false → same w donelayout ≡ false → 0 ≡ sectionOf w
+          unfolding sectionOf
+          section-0 e f = rw (a, b, c, d, e, f)
+
+-- ---- what may follow
+
+pub follows-nought : (sect k : ℕ) → k ≡ 0 → false ≡ follows sect k
+unfolding follows
+follows-nought sect k e = rw e (sym (ne-eqb (suc sect) 0 (λ z. omega arith)))
+
+pub follows-first : (sect k : ℕ) → (k ≡ 0 → ⊥) → k ≤ 2 → eqb sect (k - 1) ≡ follows sect k
+unfolding follows
+follows-first sect k n h =
+    rw (le-leb k 2 h)
+    (same-test (eqb sect (k - 1)) (eqb (suc sect) k) (λ e. let z : sect ≡ k - 1 = eqb-true sect (k - 1) e in eq-eqb (suc sect) k (omega arith))
+    (λ e. let z : suc sect ≡ k = eqb-true (suc sect) k e in eq-eqb sect (k - 1) (omega arith)))
+
+pub follows-not : (sect k : ℕ) → 2 < k → sect < 2 → false ≡ follows sect k
+unfolding follows
+follows-not sect k h l = rw (lt-leb k 2 h, lt-leb 2 sect l)
+
+pub follows-by : (sect k : ℕ) → 2 < k → 2 ≤ sect → ltb sect k ≡ follows sect k
+unfolding follows
+follows-by sect k h l = rw (lt-leb k 2 h, le-leb 2 sect l)
+
+pub opens-some : (sect : ℕ) (w : Word) (k : ℕ) (r : Bool) → k ≡ sectionOf w → r ≡ follows sect k → r ≡ true → k ≡ opens sect w
+unfolding opens
+opens-some sect w k r e f t = rw (← e, ← f, t)
+
+pub opens-none : (sect : ℕ) (w : Word) (k : ℕ) (r : Bool) → k ≡ sectionOf w → r ≡ follows sect k → r ≡ false → 0 ≡ opens sect w
+unfolding opens
+opens-none sect w k r e f t = rw (← e, ← f, t)
+
+-- ---- counts
+
+pub count-of-hooks : (k : ℕ) (w : Word) (v : ℕ) → k ≡ 5 → isCount w ≡ true → v ≡ value 0 w → eqb v 0 ≡ countRight k w
+unfolding countRight
+count-of-hooks k w v h e f = rw (h, e, f)
+
+pub count-of-others : (k : ℕ) (w : Word) → isCount w ≡ true → (k ≡ 5 → ⊥) → true ≡ countRight k w
+unfolding countRight
+count-of-others k w e n = rw (e, ne-eqb k 5 n)
+
+pub count-wrong : (k : ℕ) (w : Word) → isCount w ≡ false → false ≡ countRight k w
+unfolding countRight
+count-wrong k w e = rw e
+
+pub count-in-some : (w : Word) (v : ℕ) → isCount w ≡ true → v ≡ value 0 w → v ≡ countIn w
+unfolding countIn
+count-in-some w v e f = rw e f
+
+pub count-in-none : (w : Word) → isCount w ≡ false → 0 ≡ countIn w
+unfolding countIn
+count-in-none w e = rw e
+
+pub words-low : (k : ℕ) → k < 2 → 1 ≡ wordsOf k
+unfolding wordsOf
+words-low k h = rw (lt-leb 2 k h)
+
+pub words-mid : (k : ℕ) → 2 ≤ k → k ≤ 5 → 2 ≡ wordsOf k
+unfolding wordsOf
+words-mid k h l = rw (le-leb 2 k h, le-leb k 5 l)
+
+pub words-high : (k : ℕ) → 2 ≤ k → 5 < k → 1 ≡ wordsOf k
+unfolding wordsOf
+words-high k h l = rw (le-leb 2 k h, lt-leb k 5 l)
+
+-- ---- a line that is to open a section
+
+pub open-nothing : (k : ℕ) (l : Line) → k ≡ 0 → 33 ≡ openFault k l
+unfolding openFault
+open-nothing k l e = rw e
+
+two : (t : Bool) (n : ℕ) → n ≡ cond t 2 1 → n ≡ 1 → t ≡ false
+two true n e z = absurd (omega arith)
+two false n e z = refl
+
+not-two : (t : Bool) (n : ℕ) → n ≡ cond t 2 1 → (n ≡ 1 → ⊥) → t ≡ true
+not-two true n e z = refl
+not-two false n e z = absurd (z e)
+
+module _ (k : ℕ) (l : Line) (n m : ℕ) (en : n ≡ wordsOf k) (em : m ≡ length l) (some : k ≡ 0 → ⊥) where
+  pub open-unlike : (m ≡ n → ⊥) → 33 ≡ openFault k l
+  unfolding openFault
+  open-unlike h = rw (ne-eqb k 0 some, ne-eqb (length l) (wordsOf k) (λ z. h (em ∙ z ∙ sym en)))
+
+  same-count : m ≡ n → eqb (length l) (wordsOf k) ≡ true
+  same-count h = eq-eqb (length l) (wordsOf k) (sym em ∙ h ∙ en)
+
+  pub open-single : m ≡ n → n ≡ 1 → 0 ≡ openFault k l
+  unfolding openFault
+  open-single h o = rw (ne-eqb k 0 some, same-count h, two (within 2 5 k) n (unfold wordsOf in en) o)
+
+  pub open-counted : (u : Word) (r t : Bool) → m ≡ n → (n ≡ 1 → ⊥) → u ≡ nth l 1 → r ≡ countRight k u → r ≡ t → _≡_ {A = ℕ} (cond t 0 36) (openFault k l)
+  unfolding openFault
+  open-counted u r t h o eu er et =
+      rw (ne-eqb k 0 some, same-count h, not-two (within 2 5 k) n (unfold wordsOf in en) o, ← eu, ← er, et) (go t)
+    where
+      go : (q : Bool) → _≡_ {A = ℕ} (cond q 0 36) (cond (not q) 36 0)
+      go true = refl
+      go false = refl
+
+-- ---- numbers
+
+-- word k of a line was read as a number
+number-told : (l : Line) (k : ℕ) (u : Word) (x : Num) (t : Bool) → u ≡ nth l k → x ≡ numberOf u → x .ok ≡ t → numberOf (nth l k) .ok ≡ t
+number-told l k u x t eu ex e = rw (← eu, ← ex) e
+
+module _ (l : Line) (u : Word) (x : Num) (eu : u ≡ nth l 1) (ex : x ≡ numberOf u) where
+  pub placed-no1 : x .ok ≡ false → false ≡ placed l
+  unfolding placed
+  placed-no1 e = rw (number-told l 1 u x false eu ex e)
+
+  module _ (e : x .ok ≡ true) (v : Word) (y : Num) (ev : v ≡ nth l 2) (ey : y ≡ numberOf v) where
+    pub placed-no2 : y .ok ≡ false → false ≡ placed l
+    unfolding placed
+    placed-no2 f = rw (number-told l 1 u x true eu ex e, number-told l 2 v y false ev ey f)
+
+    pub placed-by3 : (w : Word) (z : Num) → y .ok ≡ true → w ≡ nth l 3 → z ≡ numberOf w → z .ok ≡ placed l
+    unfolding placed
+    placed-by3 w z f ew ez = rw (number-told l 1 u x true eu ex e, number-told l 2 v y true ev ey f, number-told l 3 w z (z .ok) ew ez refl)

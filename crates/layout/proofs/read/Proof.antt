@@ -1,0 +1,33 @@
+-- `layout::read` meets its contract. Assumes nothing.
+use Rattle.text.proofs.SoundLaws.{sound-length}
+use mathlib.Core.Path.{_≡_, refl, sym, ap, _∙_}
+use Rattle.verdict.specs.declared.Answer.{Answer}
+use Rattle.layout.proofs.ScanLaws.{answered-unsound, answered-sound}
+use borrow.Author.Needs.{needs}
+use Rattle.layout.proofs.read.Statement.{statement}
+use Rattle.layout.proofs.read.Tie as tie
+use Rattle.layout.proofs.read.Reads as reads
+use Rattle.layout.proofs.read.Lts as lts
+use Rattle.layout.proofs.read_lines.Reads as read-lines-reads
+use Rattle.layout.proofs.refused_layout.Reads as refused-layout-reads
+use Rattle.text.proofs.sound_verdict.Reads as sound-verdict-reads
+
+sound-verdict-requires : tie.Need-sound-verdict-requires
+sound-verdict-requires c κs = search needs
+
+refused-layout-requires : tie.Need-refused-layout-requires
+refused-layout-requires c κs = search needs
+
+returns : tie.Need-returns
+returns c = answered-unsound _ _ _ (c .before .before .before .sound-verdict .ensures) (c .before .if1 .taken) (c .refused-layout .ensures)
+
+read-lines-requires : tie.Need-read-lines-requires
+read-lines-requires c κs = sound-length _ (sym (ap (λ (a : Answer). a .number) (c .before .before .sound-verdict .ensures)) ∙ c .if1 .left)
+
+returns-2 : tie.Need-returns-2
+returns-2 c = answered-sound _ _ _ (c .before .before .before .sound-verdict .ensures) (c .before .if1 .left) (c .read-lines .ensures)
+
+pub read-spec : {M : Type 1} → statement M
+read-spec =
+    tie.close
+    (tie.spec sound-verdict-requires refused-layout-requires returns read-lines-requires returns-2)

@@ -1,0 +1,28 @@
+-- `layout::room_count` meets its contract. Assumes nothing.
+use borrow.Author.Needs.{needs}
+use Prim.Native.Nat.{ℕ}
+use mathlib.Core.Path.{_≡_}
+use lib.ListN.{length}
+use Rattle.layout.proofs.AnswerLaws.{rooms-told}
+use borrow.Author.Needs.{needs}
+use Rattle.layout.proofs.room_count.Statement.{statement}
+use Rattle.layout.proofs.room_count.Tie as tie
+use Rattle.layout.proofs.room_count.Reads as reads
+use Rattle.layout.proofs.room_count.Lts as lts
+use Rattle.layout.proofs.read.Reads as read-reads
+
+read-requires : tie.Need-read-requires
+read-requires c κs = search needs
+
+cast-t3 : tie.Need-cast-t3
+cast-t3 c = search needs
+
+-- the array has its places
+sized : (c : tie.After-read) → length (c .read .result .starts) ≡ 192
+sized c = search needs
+
+returns : tie.Need-returns
+returns c = rooms-told _ _ (sized (c .before)) (c .before .read .ensures)
+
+pub room-count-spec : {M : Type 1} → statement M
+room-count-spec = tie.close (tie.spec read-requires cast-t3 returns)

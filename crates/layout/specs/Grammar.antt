@@ -1,0 +1,153 @@
+-- The grammar of a layout (LYT), over a text that is cut into lines of words: what is wrong with a line, what a line adds, and the verdict
+-- of all lines. A blank line is a line of no words. Definitions only.
+use Prim.Native.Nat.{ℕ, suc, _-_}
+use mathlib.Core.Bool.{Bool, cond, not, _&&_, _||_}
+use mathlib.Core.List.{List, [], _∷_, _++_, map}
+use lib.ListN.{length, getD}
+use lib.Dec.{leb, ltb, eqb}
+use Rattle.verdict.specs.declared.Answer.{Answer}
+use Rattle.verdict.specs.Verdict.{refused, accepted}
+use Rattle.verdict.specs.Lowest.{anyUnder}
+use Rattle.text.specs.Class.{within}
+use Rattle.text.specs.Name.{same, isName, sameName}
+use Rattle.text.specs.Count.{value, isCount}
+use Rattle.text.specs.Number.{numberOf}
+
+abbrev pub Word : Type 0
+Word = List ℕ
+
+abbrev pub Line : Type 0
+Line = List Word
+
+-- word k of a line
+abbrev pub nth : Line → ℕ → Word
+nth l k = getD l k []
+
+-- ---- keywords, in lower case
+
+unfoldable pub beginlayout : Word
+beginlayout = 98 ∷ 101 ∷ 103 ∷ 105 ∷ 110 ∷ 108 ∷ 97 ∷ 121 ∷ 111 ∷ 117 ∷ 116 ∷ []
+
+unfoldable pub roomcount : Word
+roomcount = 114 ∷ 111 ∷ 111 ∷ 109 ∷ 99 ∷ 111 ∷ 117 ∷ 110 ∷ 116 ∷ []
+
+unfoldable pub trackcount : Word
+trackcount = 116 ∷ 114 ∷ 97 ∷ 99 ∷ 107 ∷ 99 ∷ 111 ∷ 117 ∷ 110 ∷ 116 ∷ []
+
+unfoldable pub obstaclecount : Word
+obstaclecount = 111 ∷ 98 ∷ 115 ∷ 116 ∷ 97 ∷ 99 ∷ 108 ∷ 101 ∷ 99 ∷ 111 ∷ 117 ∷ 110 ∷ 116 ∷ []
+
+unfoldable pub doorhookcount : Word
+doorhookcount = 100 ∷ 111 ∷ 111 ∷ 114 ∷ 104 ∷ 111 ∷ 111 ∷ 107 ∷ 99 ∷ 111 ∷ 117 ∷ 110 ∷ 116 ∷ []
+
+unfoldable pub donelayout : Word
+donelayout = 100 ∷ 111 ∷ 110 ∷ 101 ∷ 108 ∷ 97 ∷ 121 ∷ 111 ∷ 117 ∷ 116 ∷ []
+
+-- the section that a keyword opens: 1 the layout, 2 rooms, 3 tracks, 4 obstacles, 5 door hooks, 6 the end; 0 for no keyword
+unfoldable pub sectionOf : Word → ℕ
+sectionOf w =
+    cond (same w beginlayout) 1
+    (cond (same w roomcount) 2 (cond (same w trackcount) 3 (cond (same w obstaclecount) 4 (cond (same w doorhookcount) 5 (cond (same w donelayout) 6 0)))))
+
+-- section k may follow: `beginlayout`, `roomcount`, then optionally the others in this order, `donelayout`
+unfoldable pub follows : ℕ → ℕ → Bool
+follows sect k = cond (leb k 2) (eqb (suc sect) k) (leb 2 sect && ltb sect k)
+
+-- the section that the word opens behind `sect`, 0 for none
+unfoldable pub opens : ℕ → Word → ℕ
+opens sect w = cond (follows sect (sectionOf w)) (sectionOf w) 0
+
+-- ---- entries: name x y z
+
+-- the entries of a layout as they were typed, each a line of words
+pub record Typed : Type 0 where
+  pub rooms : List Line
+  pub tracks : List Line
+  pub obstacles : List Line
+
+abbrev pub nothing : Typed
+nothing = record { rooms = []; tracks = []; obstacles = [] }
+
+-- one entry more, in section k
+unfoldable pub withEntry : ℕ → Typed → Line → Typed
+withEntry k t e = record {
+  rooms = cond (eqb k 2) (t .rooms ++ (e ∷ [])) (t .rooms);
+  tracks = cond (eqb k 3) (t .tracks ++ (e ∷ [])) (t .tracks);
+  obstacles = cond (eqb k 4) (t .obstacles ++ (e ∷ [])) (t .obstacles);
+}
+
+-- the names of entries
+unfoldable pub namesOf : List Line → List Word
+namesOf es = map (λ (e : Line). nth e 0) es
+
+-- one of the names is this one; letter case is ignored
+unfoldable pub known : Word → List Word → Bool
+known w names = anyUnder (length names) (λ j. sameName w (getD names j []))
+
+-- ---- a line: the first of its faults, 0 for none
+
+-- where the reader is: the section, how many of its entries are still to come, and the entries so far
+pub record State : Type 0 where
+  pub sect : ℕ
+  pub left : ℕ
+  pub typed : Typed
+
+abbrev pub start : State
+start = record { sect = 0; left = 0; typed = nothing }
+
+-- three numbers
+unfoldable pub placed : Line → Bool
+placed l = (numberOf (nth l 1) .ok) && ((numberOf (nth l 2) .ok) && (numberOf (nth l 3) .ok))
+
+-- an entry: 33 word count, 34 name, 35 number, 37 name twice; only rooms are checked for 37
+unfoldable pub entryFault : State → Line → ℕ
+entryFault st l =
+    cond (not (eqb (length l) 4)) 33
+    (cond (not (isName (nth l 0))) 34
+    (cond (not (placed l)) 35 (cond (eqb (st .sect) 2 && known (nth l 0) (namesOf (st .typed .rooms))) 37 0)))
+
+-- how many words the line that opens section k has: a keyword and a count, or a keyword
+unfoldable pub wordsOf : ℕ → ℕ
+wordsOf k = cond (within 2 5 k) 2 1
+
+-- the count of section k: one or two digits, not over 64; `doorhookcount` must be 0
+unfoldable pub countRight : ℕ → Word → Bool
+countRight k w = isCount w && (not (eqb k 5) || eqb (value 0 w) 0)
+
+-- a line that is to open section k: 33 wrong keyword or word count, 36 count
+unfoldable pub openFault : ℕ → Line → ℕ
+openFault k l = cond (eqb k 0 || not (eqb (length l) (wordsOf k))) 33 (cond (within 2 5 k && not (countRight k (nth l 1))) 36 0)
+
+-- an entry while some are to come, else a line that opens a section; a blank line is no fault. Behind `donelayout` no section follows: 33
+unfoldable pub fault : State → Line → ℕ
+fault st [] = 0
+fault st (w ∷ ws) = cond (ltb 0 (st .left)) (entryFault st (w ∷ ws)) (openFault (opens (st .sect) w) (w ∷ ws))
+
+-- the state behind a line that has no fault; a blank line leaves it
+unfoldable pub next : State → Line → State
+next st [] = st
+next st (w ∷ ws) =
+    cond (ltb 0 (st .left)) (record { sect = st .sect; left = st .left - 1; typed = withEntry (st .sect) (st .typed) (w ∷ ws) })
+    (record { sect = opens (st .sect) w; left = value 0 (nth (w ∷ ws) 1); typed = st .typed })
+
+-- ---- all lines
+
+-- what a text is read as: the verdict, and the entries, none on refusal
+pub record Reading : Type 0 where
+  pub verdict : Answer
+  pub typed : Typed
+
+abbrev pub stopped : ℕ → ℕ → Reading
+stopped number line = record { verdict = refused number line; typed = nothing }
+
+-- no line is left, and none was faulty. 38: the text ends early; place the number of lines
+unfoldable pub finish : State → ℕ → Reading
+finish st n = cond (eqb (st .sect) 6) (record { verdict = accepted; typed = st .typed }) (stopped 38 n)
+
+-- the lines behind the first n: the lowest faulty line gets the first of its faults; lines count from 1
+unfoldable pub readFrom : ℕ → State → List Line → Reading
+unfolding finish
+readFrom n st [] = finish st n
+readFrom n st (l ∷ ls) =
+    let rest = readFrom (suc n) (next st l) ls in
+    cond (eqb (fault st l) 0) rest (stopped (fault st l) (suc n))

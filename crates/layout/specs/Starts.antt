@@ -1,0 +1,90 @@
+-- What the code keeps of a layout: the places where its entries' lines start, rooms from 0 on, tracks from 64 on, obstacles from 128 on.
+-- Names and numbers are read again from the text. Definitions only.
+use mathlib.Core.Path.{_≡_}
+use Prim.Native.Nat.{ℕ, suc, _+_, _-_, _≤_, _<_}
+use mathlib.Core.Bool.{Bool, true, cond}
+use mathlib.Core.List.{List, [], _∷_, map}
+use lib.ListN.{length, take, drop, set, getD}
+use lib.Dec.{ltb, eqb}
+use Rattle.verdict.specs.declared.Answer.{Answer}
+use Rattle.text.specs.Scan.{words, lineAt}
+use Rattle.text.specs.Name.{isName}
+use Rattle.text.specs.Count.{value, isCount}
+use Rattle.layout.specs.declared.Progress.{Progress}
+use Rattle.layout.specs.declared.Layout.{Layout}
+use Rattle.layout.specs.Grammar.{Word, Line, nth, Typed, State, Reading, opens}
+use Rattle.layout.specs.Layout.{layoutVerdict, layoutOf}
+
+-- the line of words that starts at a place
+abbrev pub entryAt : List ℕ → ℕ → Line
+entryAt s at = words (lineAt s at)
+
+-- the n entries whose starts are kept from a place on
+unfoldable pub held : List ℕ → List ℕ → ℕ → ℕ → List Line
+held s starts from n = map (entryAt s) (take n (drop from starts))
+
+-- the n entries whose starts are kept from a place on have names
+pub record NamedFrom (s starts : List ℕ) (from n : ℕ) : Type 0 where
+  pub name : (j : ℕ) → j < n → isName (nth (entryAt s (getD starts (from + j) 0)) 0) ≡ true
+
+-- the first n entries have names
+pub record Named (s starts : List ℕ) (n : ℕ) : Type 0 where
+  pub name : (j : ℕ) → j < n → isName (nth (entryAt s (getD starts j 0)) 0) ≡ true
+
+-- the name of the entry whose start is kept at k, nothing where none is
+unfoldable pub keptName : List ℕ → List ℕ → ℕ → Word
+keptName s starts k = cond (ltb k (length starts)) (nth (entryAt s (getD starts k 0)) 0) []
+
+-- the state that the code stands for
+unfoldable pub stateOf : List ℕ → List ℕ → Progress → State
+stateOf s starts c = record {
+  sect = c .sect;
+  left = c .left;
+  typed = record { rooms = held s starts 0 (c .rooms); tracks = held s starts 64 (c .tracks); obstacles = held s starts 128 (c .obstacles) };
+}
+
+-- what a count says, 0 where it is none
+unfoldable pub countIn : Word → ℕ
+countIn w = cond (isCount w) (value 0 w) 0
+
+-- the code's state behind an entry, and behind a line
+unfoldable pub entered : Progress → Progress
+entered c = record {
+  sect = c .sect;
+  left = c .left - 1;
+  rooms = cond (eqb (c .sect) 2) (c .rooms + 1) (c .rooms);
+  tracks = cond (eqb (c .sect) 3) (c .tracks + 1) (c .tracks);
+  obstacles = cond (eqb (c .sect) 4) (c .obstacles + 1) (c .obstacles);
+}
+
+unfoldable pub movedTo : Progress → Line → Progress
+movedTo c [] = c
+movedTo c (w ∷ ws) =
+    cond (ltb 0 (c .left)) (entered c)
+    (record { sect = opens (c .sect) w; left = countIn (nth (w ∷ ws) 1); rooms = c .rooms; tracks = c .tracks; obstacles = c .obstacles })
+
+-- where the next entry's start is kept
+unfoldable pub slotOf : Progress → ℕ
+slotOf c = cond (eqb (c .sect) 2) (c .rooms) (cond (eqb (c .sect) 3) (64 + c .tracks) (128 + c .obstacles))
+
+unfoldable pub kept : List ℕ → Progress → ℕ → List ℕ
+kept starts c at = cond (ltb 0 (c .left)) (set starts (slotOf c) at) starts
+
+-- the code's counts and starts are those of a layout's entries
+pub record Held (s : List ℕ) (r : Layout) (t : Typed) : Type 0 where
+  pub rooms : held s (r .starts) 0 (r .rooms) ≡ t .rooms
+  pub tracks : held s (r .starts) 64 (r .tracks) ≡ t .tracks
+  pub obstacles : held s (r .starts) 128 (r .obstacles) ≡ t .obstacles
+  pub few-rooms : r .rooms ≤ 64
+  pub few-tracks : r .tracks ≤ 64
+  pub few-obstacles : r .obstacles ≤ 64
+
+-- the code found what a reading says
+pub record Found (s : List ℕ) (r : Layout) (found : Reading) : Type 0 where
+  pub verdict : _≡_ {A = Answer} (record { number = r .number; place = r .place }) (found .verdict)
+  pub held : Held s r (found .typed)
+
+-- what the reader answers: the layout's verdict, and where its entries are
+pub record Answered (s : List ℕ) (r : Layout) : Type 0 where
+  pub verdict : _≡_ {A = Answer} (record { number = r .number; place = r .place }) (layoutVerdict s)
+  pub held : Held s r (layoutOf s)
