@@ -236,6 +236,34 @@ fn line_fault(s: &[u8], starts: &[usize], st: Progress, at: usize) -> u32
     open_fault(opened(st.sect, word(l, 0)), l)
 }
 
+// One entry more, of a section that is neither that of rooms nor that of tracks.
+fn one_obstacle_more(st: Progress) -> Progress
+    requires { ⌜ (0 < st .left) × ((st .obstacles ≤ 64) × ((st .sect ≡ 2 → ⊥) × (st .sect ≡ 3 → ⊥))) ⌝ }
+    ensures { λ r. ⌜ r ≡ entered st ⌝ }
+{
+    let sect = st.sect;
+    let left = st.left - 1;
+    let rooms = st.rooms;
+    let tracks = st.tracks;
+    let obstacles = st.obstacles;
+    if sect == 4 {
+        return Progress {
+            sect,
+            left,
+            rooms,
+            tracks,
+            obstacles: obstacles + 1,
+        };
+    }
+    Progress {
+        sect,
+        left,
+        rooms,
+        tracks,
+        obstacles,
+    }
+}
+
 // One entry more in the section.
 fn one_more(st: Progress) -> Progress
     requires { ⌜ (0 < st .left) × ((st .rooms ≤ 64) × ((st .tracks ≤ 64) × (st .obstacles ≤ 64))) ⌝ }
@@ -264,22 +292,7 @@ fn one_more(st: Progress) -> Progress
             obstacles,
         };
     }
-    if sect == 4 {
-        return Progress {
-            sect,
-            left,
-            rooms,
-            tracks,
-            obstacles: obstacles + 1,
-        };
-    }
-    Progress {
-        sect,
-        left,
-        rooms,
-        tracks,
-        obstacles,
-    }
+    one_obstacle_more(st)
 }
 
 // The state behind a line.

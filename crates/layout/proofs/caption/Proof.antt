@@ -5,11 +5,6 @@ use Rattle.layout.proofs.AnswerLaws.{has-it, has-none, its-name, captio
 use borrow.Author.Needs.{needs}
 use Rattle.layout.proofs.caption.Statement.{statement}
 use Rattle.layout.proofs.caption.Tie as tie
-use Rattle.layout.proofs.caption.Reads as reads
-use Rattle.layout.proofs.caption.Lts as lts
-use Rattle.layout.proofs.read.Reads as read-reads
-use Rattle.text.proofs.line_at.Reads as line-at-reads
-use Rattle.text.proofs.word.Reads as word-reads
 
 -- the array has its places
 sized : (c : tie.After-read) → length (c .read .result .starts) ≡ 192
@@ -18,63 +13,26 @@ sized c = search needs
 sized2 : (c : tie.After-read2) → length (c .read2 .result .starts) ≡ 192
 sized2 c = search needs
 
-read-requires : tie.Need-read-requires
-read-requires c κs = search needs
-
-mul-at : tie.Need-mul-at
-mul-at c = search needs
-
-element-copy-out-at : tie.Need-element-copy-out-at
-element-copy-out-at c = search needs
-
-line-at-requires : tie.Need-line-at-requires
-line-at-requires c κs = search needs
-
-word-requires : tie.Need-word-requires
-word-requires c κs = search needs
-
 returns : tie.Need-returns
-returns c = let r = c .before .before .before .before in let h = c .before .before .before .if1 .taken in caption-first _ _ _ _ (has-it _ _ (sized (r)) (r .read .ensures) _ h) (its-name _ _ (sized (r)) (r .read .ensures) _ _ _ h (c .before .line-at .ensures) (c .word .ensures))
-
-read-requires-2 : tie.Need-read-requires-2
-read-requires-2 c κs = search needs
-
-mul-at-2 : tie.Need-mul-at-2
-mul-at-2 c = search needs
-
-element-copy-out-at-2 : tie.Need-element-copy-out-at-2
-element-copy-out-at-2 c = search needs
-
-line-at-requires-2 : tie.Need-line-at-requires-2
-line-at-requires-2 c κs = search needs
-
-word-requires-2 : tie.Need-word-requires-2
-word-requires-2 c κs = search needs
+returns c =
+    let r = c .before .before .before .before in
+    let h = c .before .before .before .if1 .taken in
+    caption-first _ _ _ _ (has-it _ _ (sized (r)) (r .read .ensures) _ h) (its-name _ _ (sized (r)) (r .read .ensures) _ _ _ h (c .before .line-at .ensures) (c .word .ensures))
 
 returns-2 : tie.Need-returns-2
-returns-2 c = let q = c .before .before .before .before in let r = c .before .before .before .before .before .before in let h = c .before .before .before .if2 .taken in caption-second _ _ _ _ (has-none _ _ (sized (r)) (r .read .ensures) _ (c .before .before .before .before .before .if1 .left)) (has-it _ _ (sized2 (q)) (q .read2 .ensures) _ h) (its-name _ _ (sized2 (q)) (q .read2 .ensures) _ _ _ h (c .before .line-at2 .ensures) (c .word2 .ensures))
-
-slice-aggregate-result : tie.Need-slice-aggregate-result
-slice-aggregate-result c = search needs
+returns-2 c =
+    let q = c .before .before .before .before in
+    let r = c .before .before .before .before .before .before in
+    let h = c .before .before .before .if2 .taken in
+    caption-second _ _ _ _ (has-none _ _ (sized (r)) (r .read .ensures) _ (c .before .before .before .before .before .if1 .left)) (has-it _ _ (sized2 (q)) (q .read2 .ensures) _ h) (its-name _ _ (sized2 (q)) (q .read2 .ensures) _ _ _ h (c .before .line-at2 .ensures) (c .word2 .ensures))
 
 returns-3 : tie.Need-returns-3
-returns-3 c = let q = c .before .before in let r = c .before .before .before .before in caption-none _ _ _ (has-none _ _ (sized (r)) (r .read .ensures) _ (c .before .before .before .if1 .left)) (has-none _ _ (sized2 (q)) (q .read2 .ensures) _ (c .before .if2 .left))
+returns-3 c =
+    let q = c .before .before in
+    let r = c .before .before .before .before in
+    caption-none _ _ _ (has-none _ _ (sized (r)) (r .read .ensures) _ (c .before .before .before .if1 .left)) (has-none _ _ (sized2 (q)) (q .read2 .ensures) _ (c .before .if2 .left))
 
 pub caption-spec : {M : Type 1} → statement M
 caption-spec =
     tie.close
-    (tie.spec
-    read-requires
-    mul-at
-    element-copy-out-at
-    line-at-requires
-    word-requires
-    returns
-    read-requires-2
-    mul-at-2
-    element-copy-out-at-2
-    line-at-requires-2
-    word-requires-2
-    returns-2
-    slice-aggregate-result
-    returns-3)
+    (tie.spec (search needs) (search needs) (search needs) (search needs) (search needs) returns (search needs) (search needs) (search needs) (search needs) (search needs) returns-2 (search needs) returns-3)

@@ -4,13 +4,6 @@ use Rattle.layout.proofs.LineLaws.{count-in-some, count-in-none}
 use borrow.Author.Needs.{needs}
 use Rattle.layout.proofs.count_in.Statement.{statement}
 use Rattle.layout.proofs.count_in.Tie as tie
-use Rattle.layout.proofs.count_in.Reads as reads
-use Rattle.layout.proofs.count_in.Lts as lts
-use Rattle.text.proofs.count_of.Reads as count-of-reads
-use Rattle.text.proofs.is_count.Reads as is-count-reads
-
-is-count-requires : tie.Need-is-count-requires
-is-count-requires c κs = search needs
 
 count-of-requires : tie.Need-count-of-requires
 count-of-requires c κs = sym (c .before .is-count .ensures) ∙ c .if1 .taken
@@ -22,4 +15,4 @@ returns-2 : tie.Need-returns-2
 returns-2 c = count-in-none _ (sym (c .before .is-count .ensures) ∙ c .if1 .left)
 
 pub count-in-spec : {M : Type 1} → statement M
-count-in-spec = tie.close (tie.spec is-count-requires count-of-requires returns returns-2)
+count-in-spec = tie.close (tie.spec (search needs) count-of-requires returns returns-2)

@@ -8,19 +8,14 @@ use lib.Dec.{eqb}
 use borrow.Author.Needs.{needs}
 use Rattle.layout.proofs.count_right.Statement.{statement}
 use Rattle.layout.proofs.count_right.Tie as tie
-use Rattle.layout.proofs.count_right.Reads as reads
-use Rattle.layout.proofs.count_right.Lts as lts
-use Rattle.text.proofs.count_of.Reads as count-of-reads
-use Rattle.text.proofs.is_count.Reads as is-count-reads
-
-is-count-requires : tie.Need-is-count-requires
-is-count-requires c κs = search needs
 
 count-of-requires : tie.Need-count-of-requires
 count-of-requires c κs = sym (c .before .before .is-count .ensures) ∙ c .before .if1 .taken
 
 returns : tie.Need-returns
-returns c = let d = c .before in count-of-hooks _ _ _ (d .if2 .taken) (sym (d .before .before .is-count .ensures) ∙ d .before .if1 .taken) (c .count-of .ensures)
+returns c =
+    let d = c .before in
+    count-of-hooks _ _ _ (d .if2 .taken) (sym (d .before .before .is-count .ensures) ∙ d .before .if1 .taken) (c .count-of .ensures)
 
 returns-2 : tie.Need-returns-2
 returns-2 c = count-of-others _ _ (sym (c .before .before .is-count .ensures) ∙ c .before .if1 .taken) (c .if2 .left)
@@ -30,4 +25,4 @@ returns-3 c = count-wrong _ _ (sym (c .before .is-count .ensures) ∙ c .if1 .le
 
 pub count-right-spec : {M : Type 1} → statement M
 count-right-spec =
-    tie.close (tie.spec is-count-requires count-of-requires returns returns-2 returns-3)
+    tie.close (tie.spec (search needs) count-of-requires returns returns-2 returns-3)

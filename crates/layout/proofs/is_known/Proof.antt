@@ -11,9 +11,6 @@ use Rattle.layout.specs.Grammar.{namesOf}
 use Rattle.layout.specs.Starts.{held}
 use Rattle.layout.proofs.is_known.Statement.{statement}
 use Rattle.layout.proofs.is_known.Tie as tie
-use Rattle.layout.proofs.is_known.Reads as reads
-use Rattle.layout.proofs.is_known.Lts as lts
-use Rattle.layout.proofs.is_named.Reads as is-named-reads
 
 abbrev Inv-loop : tie.InvT-loop
 Inv-loop s starts n but w j₀ j = (j ≤ n) × (lowest j (another but w (namesOf (held s starts 0 n))) ≡ j)
@@ -25,33 +22,32 @@ loop-holds : tie.Need-loop-holds Inv-loop μ-loop
 loop-holds c = (omega arith, lowest-none _)
 
 is-named-requires : tie.Need-is-named-requires Inv-loop μ-loop
-is-named-requires c κs = let z = c .before in let g = z .before .before .before .before in (omega (arith, g .pre), (g .pre .1 .0, g .pre .1 .1 .name (z .loop .j) (c .loop-test .taken)))
+is-named-requires c κs =
+    let z = c .before in
+    let g = z .before .before .before .before in
+    (omega (arith, g .pre), (g .pre .1 .0, g .pre .1 .1 .name (z .loop .j) (c .loop-test .taken)))
 
 returns : tie.Need-returns Inv-loop μ-loop
-returns c = let z = c .before .before .before in let g = z .before .before .before .before in let l = c .before .before .loop-test .taken in known-hit _ _ _ _ _ _ (g .pre .0) l (z .loop .inv .1) (known-turn _ _ _ _ _ _ _ true (g .pre .0) l (c .before .is-named .ensures) (c .if1 .taken))
-
-add-j : tie.Need-add-j Inv-loop μ-loop
-add-j c = search needs
-
-loop-less : tie.Need-loop-less Inv-loop μ-loop
-loop-less c = search needs
+returns c =
+    let z = c .before .before .before in
+    let g = z .before .before .before .before in
+    let l = c .before .before .loop-test .taken in
+    known-hit _ _ _ _ _ _ (g .pre .0) l (z .loop .inv .1) (known-turn _ _ _ _ _ _ _ true (g .pre .0) l (c .before .is-named .ensures) (c .if1 .taken))
 
 loop-again : tie.Need-loop-again Inv-loop μ-loop
-loop-again c = let z = c .before .before .before in let g = z .before .before .before .before in let l = c .before .before .loop-test .taken in (omega arith, lowest-more _ _ (z .loop .inv .1) (known-turn _ _ _ _ _ _ _ false (g .pre .0) l (c .before .is-named .ensures) (c .if1 .left)))
+loop-again c =
+    let z = c .before .before .before in
+    let g = z .before .before .before .before in
+    let l = c .before .before .loop-test .taken in
+    (omega arith, lowest-more _ _ (z .loop .inv .1) (known-turn _ _ _ _ _ _ _ false (g .pre .0) l (c .before .is-named .ensures) (c .if1 .left)))
 
 returns-2 : tie.Need-returns-2 Inv-loop μ-loop
-returns-2 c = let z = c .before in let g = z .before .before .before .before in known-none _ _ _ _ _ _ (g .pre .0) (c .loop-test .left) (z .loop .inv .1)
+returns-2 c =
+    let z = c .before in
+    let g = z .before .before .before .before in
+    known-none _ _ _ _ _ _ (g .pre .0) (c .loop-test .left) (z .loop .inv .1)
 
 pub is-known-spec : {M : Type 1} → statement M
 is-known-spec =
     tie.close
-    (tie.spec
-    Inv-loop
-    μ-loop
-    loop-holds
-    is-named-requires
-    returns
-    add-j
-    loop-less
-    loop-again
-    returns-2)
+    (tie.spec Inv-loop μ-loop loop-holds is-named-requires returns (search needs) (search needs) loop-again returns-2)

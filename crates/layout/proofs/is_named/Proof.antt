@@ -4,41 +4,22 @@ use Rattle.layout.proofs.HeldLaws.{named-not, named-by, named-asked}
 use borrow.Author.Needs.{needs}
 use Rattle.layout.proofs.is_named.Statement.{statement}
 use Rattle.layout.proofs.is_named.Tie as tie
-use Rattle.layout.proofs.is_named.Reads as reads
-use Rattle.layout.proofs.is_named.Lts as lts
-use Rattle.text.proofs.line_at.Reads as line-at-reads
-use Rattle.text.proofs.same_name.Reads as same-name-reads
-use Rattle.text.proofs.word.Reads as word-reads
 
 returns : tie.Need-returns
 returns c = named-not _ _ _ (c .if1 .taken)
 
-mul-line-at : tie.Need-mul-line-at
-mul-line-at c = search needs
-
-shared-slice-read-line-at : tie.Need-shared-slice-read-line-at
-shared-slice-read-line-at c = search needs
-
-line-at-requires : tie.Need-line-at-requires
-line-at-requires c κs = search needs
-
-word-requires : tie.Need-word-requires
-word-requires c κs = search needs
-
 same-name-requires : tie.Need-same-name-requires
-same-name-requires c κs = let g = c .before .before .before .before .before .before .before in (g .pre .1 .0, named-asked (g .args .s .now) (g .args .starts .now) _ _ (g .args .j) (c .before .line-at .ensures) (c .word .ensures) (g .pre .1 .1))
+same-name-requires c κs =
+    let g = c .before .before .before .before .before .before .before in
+    (g .pre .1 .0, named-asked (g .args .s .now) (g .args .starts .now) _ _ (g .args .j) (c .before .line-at .ensures) (c .word .ensures) (g .pre .1 .1))
 
 returns-2 : tie.Need-returns-2
-returns-2 c = let l = c .before .before in let g = l .before .before .before .before .before .before in named-by (g .args .j) (g .args .but) (g .args .w .now) (g .args .s .now) (g .args .starts .now) _ _ _ (l .before .before .if1 .left) (l .line-at .ensures) (c .before .word .ensures) (c .same-name .ensures)
+returns-2 c =
+    let l = c .before .before in
+    let g = l .before .before .before .before .before .before in
+    named-by (g .args .j) (g .args .but) (g .args .w .now) (g .args .s .now) (g .args .starts .now) _ _ _ (l .before .before .if1 .left) (l .line-at .ensures) (c .before .word .ensures) (c .same-name .ensures)
 
 pub is-named-spec : {M : Type 1} → statement M
 is-named-spec =
     tie.close
-    (tie.spec
-    returns
-    mul-line-at
-    shared-slice-read-line-at
-    line-at-requires
-    word-requires
-    same-name-requires
-    returns-2)
+    (tie.spec returns (search needs) (search needs) (search needs) (search needs) same-name-requires returns-2)

@@ -5,34 +5,17 @@ use mathlib.Core.Bool.{true, false}
 use borrow.Author.Needs.{needs}
 use Rattle.layout.proofs.is_placed.Statement.{statement}
 use Rattle.layout.proofs.is_placed.Tie as tie
-use Rattle.layout.proofs.is_placed.Reads as reads
-use Rattle.layout.proofs.is_placed.Lts as lts
-use Rattle.text.proofs.number.Reads as number-reads
-use Rattle.text.proofs.word.Reads as word-reads
-
-word-requires : tie.Need-word-requires
-word-requires c κs = search needs
-
-number-requires : tie.Need-number-requires
-number-requires c κs = search needs
-
-word-requires-2 : tie.Need-word-requires-2
-word-requires-2 c κs = search needs
-
-number-requires-2 : tie.Need-number-requires-2
-number-requires-2 c κs = search needs
-
-word-requires-3 : tie.Need-word-requires-3
-word-requires-3 c κs = search needs
-
-number-requires-3 : tie.Need-number-requires-3
-number-requires-3 c κs = search needs
 
 returns : tie.Need-returns
-returns c = let d = c .before .before in let e = d .before .before .before in placed-by3 _ _ _ (e .before .before .word .ensures) (e .before .number .ensures) (e .if1 .taken) _ _ (d .before .before .word2 .ensures) (d .before .number2 .ensures) _ _ (d .if2 .taken) (c .before .word3 .ensures) (c .number3 .ensures)
+returns c =
+    let d = c .before .before in
+    let e = d .before .before .before in
+    placed-by3 _ _ _ (e .before .before .word .ensures) (e .before .number .ensures) (e .if1 .taken) _ _ (d .before .before .word2 .ensures) (d .before .number2 .ensures) _ _ (d .if2 .taken) (c .before .word3 .ensures) (c .number3 .ensures)
 
 returns-2 : tie.Need-returns-2
-returns-2 c = let e = c .before .before .before in placed-no2 _ _ _ (e .before .before .word .ensures) (e .before .number .ensures) (e .if1 .taken) _ _ (c .before .before .word2 .ensures) (c .before .number2 .ensures) (c .if2 .left)
+returns-2 c =
+    let e = c .before .before .before in
+    placed-no2 _ _ _ (e .before .before .word .ensures) (e .before .number .ensures) (e .if1 .taken) _ _ (c .before .before .word2 .ensures) (c .before .number2 .ensures) (c .if2 .left)
 
 returns-3 : tie.Need-returns-3
 returns-3 c = placed-no1 _ _ _ (c .before .before .word .ensures) (c .before .number .ensures) (c .if1 .left)
@@ -40,13 +23,4 @@ returns-3 c = placed-no1 _ _ _ (c .before .before .word .ensures) (c .before .nu
 pub is-placed-spec : {M : Type 1} → statement M
 is-placed-spec =
     tie.close
-    (tie.spec
-    word-requires
-    number-requires
-    word-requires-2
-    number-requires-2
-    word-requires-3
-    number-requires-3
-    returns
-    returns-2
-    returns-3)
+    (tie.spec (search needs) (search needs) (search needs) (search needs) (search needs) (search needs) returns returns-2 returns-3)

@@ -6,9 +6,6 @@ use Rattle.layout.specs.Starts.{slotOf}
 use borrow.Author.Needs.{needs}
 use Rattle.layout.proofs.keep.Statement.{statement}
 use Rattle.layout.proofs.keep.Tie as tie
-use Rattle.layout.proofs.keep.Reads as reads
-use Rattle.layout.proofs.keep.Lts as lts
-use Rattle.layout.proofs.slot.Reads as slot-reads
 
 -- an entry's slot is one of the 192
 inside : (c : tie.After-slot) → c .slot .result < 192
@@ -20,9 +17,6 @@ inside c =
 returns : tie.Need-returns
 returns c = kept-none _ _ _ (c .if1 .taken)
 
-slot-requires : tie.Need-slot-requires
-slot-requires c κs = search needs
-
 mul-starts : tie.Need-mul-starts
 mul-starts c = omega (arith, inside c)
 
@@ -33,4 +27,4 @@ returns-2 : tie.Need-returns-2
 returns-2 c = kept-some _ _ _ _ (c .before .if1 .left) (c .slot .ensures)
 
 pub keep-spec : {M : Type 1} → statement M
-keep-spec = tie.close (tie.spec returns slot-requires mul-starts element-write-starts returns-2)
+keep-spec = tie.close (tie.spec returns (search needs) mul-starts element-write-starts returns-2)

@@ -7,10 +7,6 @@ use Rattle.layout.proofs.AnswerLaws.{rewrite-refused, own-short, rewrit
 use borrow.Author.Needs.{needs}
 use Rattle.layout.proofs.layout_rewrite.Statement.{statement}
 use Rattle.layout.proofs.layout_rewrite.Tie as tie
-use Rattle.layout.proofs.layout_rewrite.Reads as reads
-use Rattle.layout.proofs.layout_rewrite.Lts as lts
-use Rattle.layout.proofs.read.Reads as read-reads
-use Rattle.layout.proofs.write_form.Reads as write-form-reads
 
 -- the array has its places
 sized : (c : tie.After-read) → length (c .read .result .starts) ≡ 192
@@ -26,13 +22,18 @@ slice-aggregate-write-form : tie.Need-slice-aggregate-write-form
 slice-aggregate-write-form c = search needs
 
 write-form-requires : tie.Need-write-form-requires
-write-form-requires c κs = let r = c .before .before .before .before in ((r .read .ensures .held, omega arith), own-short _ _ (sized r) (r .read .ensures) _)
+write-form-requires c κs =
+    let r = c .before .before .before .before in
+    ((r .read .ensures .held, omega arith), own-short _ _ (sized r) (r .read .ensures) _)
 
 same-length : tie.Need-same-length
 same-length c = search needs
 
 returns-2 : tie.Need-returns-2
-returns-2 c = let g = c .before .before .before .before .before .before .before .before .before .before in let r = c .before .before .before .before .before .before .before in rewrite-by _ _ (sized r) (r .read .ensures) [] _ _ (g .args .out .now) (c .before .before .before .before .before .if1 .left) (c .before .before .write-form .ensures)
+returns-2 c =
+    let g = c .before .before .before .before .before .before .before .before .before .before in
+    let r = c .before .before .before .before .before .before .before in
+    rewrite-by _ _ (sized r) (r .read .ensures) [] _ _ (g .args .out .now) (c .before .before .before .before .before .if1 .left) (c .before .before .write-form .ensures)
 
 pub layout-rewrite-spec : {M : Type 1} → statement M
 layout-rewrite-spec =

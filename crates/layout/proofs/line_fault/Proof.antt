@@ -5,14 +5,6 @@ use Rattle.layout.proofs.FaultLaws.{fault-blank, fault-entry, fault-ope
 use borrow.Author.Needs.{needs}
 use Rattle.layout.proofs.line_fault.Statement.{statement}
 use Rattle.layout.proofs.line_fault.Tie as tie
-use Rattle.layout.proofs.line_fault.Reads as reads
-use Rattle.layout.proofs.line_fault.Lts as lts
-use Rattle.layout.proofs.entry_fault.Reads as entry-fault-reads
-use Rattle.layout.proofs.open_fault.Reads as open-fault-reads
-use Rattle.layout.proofs.opened.Reads as opened-reads
-use Rattle.text.proofs.line_at.Reads as line-at-reads
-use Rattle.text.proofs.word.Reads as word-reads
-use Rattle.text.proofs.word_count.Reads as word-count-reads
 
 line-at-requires : tie.Need-line-at-requires
 line-at-requires c κs = search needs
@@ -28,7 +20,10 @@ entry-fault-requires c κs = search needs
 
 returns-2 : tie.Need-returns-2
 unfolding stateOf
-returns-2 c = let d = c .before in let e = d .before .before in fault-entry _ _ _ _ (e .before .before .line-at .ensures) _ (e .before .word-count .ensures) _ (e .if1 .left) (d .if2 .taken) (c .entry-fault .ensures)
+returns-2 c =
+    let d = c .before in
+    let e = d .before .before in
+    fault-entry _ _ _ _ (e .before .before .line-at .ensures) _ (e .before .word-count .ensures) _ (e .if1 .left) (d .if2 .taken) (c .entry-fault .ensures)
 
 word-requires : tie.Need-word-requires
 word-requires c κs = search needs
@@ -41,7 +36,10 @@ open-fault-requires c κs = search needs
 
 returns-3 : tie.Need-returns-3
 unfolding stateOf
-returns-3 c = let d = c .before .before .before in let e = d .before .before in fault-open _ _ _ _ (e .before .before .line-at .ensures) _ (e .before .word-count .ensures) _ _ _ (e .if1 .left) (d .if2 .left) (c .before .before .word .ensures) (c .before .opened .ensures) (c .open-fault .ensures)
+returns-3 c =
+    let d = c .before .before .before in
+    let e = d .before .before in
+    fault-open _ _ _ _ (e .before .before .line-at .ensures) _ (e .before .word-count .ensures) _ _ _ (e .if1 .left) (d .if2 .left) (c .before .before .word .ensures) (c .before .opened .ensures) (c .open-fault .ensures)
 
 pub line-fault-spec : {M : Type 1} → statement M
 line-fault-spec =

@@ -3,14 +3,9 @@ use Rattle.layout.proofs.LineLaws.{follows-nought, follows-first, follo
 use borrow.Author.Needs.{needs}
 use Rattle.layout.proofs.may_follow.Statement.{statement}
 use Rattle.layout.proofs.may_follow.Tie as tie
-use Rattle.layout.proofs.may_follow.Reads as reads
-use Rattle.layout.proofs.may_follow.Lts as lts
 
 returns : tie.Need-returns
 returns c = follows-nought _ _ (c .if1 .taken)
-
-sub-result : tie.Need-sub-result
-sub-result c = search needs
 
 returns-2 : tie.Need-returns-2
 returns-2 c = follows-first _ _ (c .before .if1 .left) (c .if2 .taken)
@@ -22,4 +17,4 @@ returns-4 : tie.Need-returns-4
 returns-4 c = follows-by _ _ (c .before .if2 .left) (c .if3 .left)
 
 pub may-follow-spec : {M : Type 1} → statement M
-may-follow-spec = tie.close (tie.spec returns sub-result returns-2 returns-3 returns-4)
+may-follow-spec = tie.close (tie.spec returns (search needs) returns-2 returns-3 returns-4)

@@ -7,50 +7,33 @@ use Rattle.layout.specs.Grammar.{openFault}
 use borrow.Author.Needs.{needs}
 use Rattle.layout.proofs.open_fault.Statement.{statement}
 use Rattle.layout.proofs.open_fault.Tie as tie
-use Rattle.layout.proofs.open_fault.Reads as reads
-use Rattle.layout.proofs.open_fault.Lts as lts
-use Rattle.layout.proofs.count_right.Reads as count-right-reads
-use Rattle.layout.proofs.words_of.Reads as words-of-reads
-use Rattle.text.proofs.word.Reads as word-reads
-use Rattle.text.proofs.word_count.Reads as word-count-reads
 
 returns : tie.Need-returns
 returns c = open-nothing _ _ (c .if1 .taken)
 
-words-of-requires : tie.Need-words-of-requires
-words-of-requires c κs = search needs
-
-word-count-requires : tie.Need-word-count-requires
-word-count-requires c κs = search needs
-
 returns-2 : tie.Need-returns-2
-returns-2 c = let w = c .before in open-unlike _ _ _ _ (w .before .words-of .ensures) (w .word-count .ensures) (w .before .before .if1 .left) (c .if2 .taken)
+returns-2 c =
+    let w = c .before in
+    open-unlike _ _ _ _ (w .before .words-of .ensures) (w .word-count .ensures) (w .before .before .if1 .left) (c .if2 .taken)
 
 returns-3 : tie.Need-returns-3
-returns-3 c = let w = c .before .before in open-single _ _ _ _ (w .before .words-of .ensures) (w .word-count .ensures) (w .before .before .if1 .left) (c .before .if2 .left) (c .if3 .taken)
-
-word-requires : tie.Need-word-requires
-word-requires c κs = search needs
-
-count-right-requires : tie.Need-count-right-requires
-count-right-requires c κs = search needs
+returns-3 c =
+    let w = c .before .before in
+    open-single _ _ _ _ (w .before .words-of .ensures) (w .word-count .ensures) (w .before .before .if1 .left) (c .before .if2 .left) (c .if3 .taken)
 
 returns-4 : tie.Need-returns-4
-returns-4 c = let e = c .before .before .before in let w = e .before .before in open-counted _ _ _ _ (w .before .words-of .ensures) (w .word-count .ensures) (w .before .before .if1 .left) _ _ true (e .before .if2 .left) (e .if3 .left) (c .before .before .word .ensures) (c .before .count-right .ensures) (c .if4 .taken)
+returns-4 c =
+    let e = c .before .before .before in
+    let w = e .before .before in
+    open-counted _ _ _ _ (w .before .words-of .ensures) (w .word-count .ensures) (w .before .before .if1 .left) _ _ true (e .before .if2 .left) (e .if3 .left) (c .before .before .word .ensures) (c .before .count-right .ensures) (c .if4 .taken)
 
 returns-5 : tie.Need-returns-5
-returns-5 c = let e = c .before .before .before in let w = e .before .before in open-counted _ _ _ _ (w .before .words-of .ensures) (w .word-count .ensures) (w .before .before .if1 .left) _ _ false (e .before .if2 .left) (e .if3 .left) (c .before .before .word .ensures) (c .before .count-right .ensures) (c .if4 .left)
+returns-5 c =
+    let e = c .before .before .before in
+    let w = e .before .before in
+    open-counted _ _ _ _ (w .before .words-of .ensures) (w .word-count .ensures) (w .before .before .if1 .left) _ _ false (e .before .if2 .left) (e .if3 .left) (c .before .before .word .ensures) (c .before .count-right .ensures) (c .if4 .left)
 
 pub open-fault-spec : {M : Type 1} → statement M
 open-fault-spec =
     tie.close
-    (tie.spec
-    returns
-    words-of-requires
-    word-count-requires
-    returns-2
-    returns-3
-    word-requires
-    count-right-requires
-    returns-4
-    returns-5)
+    (tie.spec returns (search needs) (search needs) returns-2 returns-3 (search needs) (search needs) returns-4 returns-5)

@@ -9,18 +9,10 @@ use Rattle.layout.proofs.PrintLaws.{wrote-is, entry-bytes, coordinate-e
 use borrow.Author.Needs.{needs}
 use Rattle.layout.proofs.put_entry.Statement.{statement}
 use Rattle.layout.proofs.put_entry.Tie as tie
-use Rattle.layout.proofs.put_entry.Reads as reads
-use Rattle.layout.proofs.put_entry.Lts as lts
-use Rattle.layout.proofs.put_coordinate.Reads as put-coordinate-reads
-use Rattle.text.proofs.put_byte.Reads as put-byte-reads
-use Rattle.text.proofs.put_lowered.Reads as put-lowered-reads
 
 -- a name has at most 16 bytes
 far : (c : tie.After-put-lowered) → c .put-lowered .result ≤ c .before .before .before .before .before .args .at + 16
 far c = omega (arith, c .put-lowered .ensures .next, length-lowered (c .before .before .before .before .before .args .w .now), c .before .before .before .before .before .pre)
-
-put-lowered-requires : tie.Need-put-lowered-requires
-put-lowered-requires c κs = search needs
 
 put-coordinate-requires : tie.Need-put-coordinate-requires
 put-coordinate-requires c κs = omega (arith, far (c .before .before .before), c .before .before .before .before .before .before .before .before .pre)
@@ -34,9 +26,6 @@ put-coordinate-requires-3 c κs = omega (arith, coordinate-end _ (c .before .bef
 put-byte-requires : tie.Need-put-byte-requires
 put-byte-requires c κs = omega (arith, coordinate-end _ (c .before .before .before .put-coordinate3 .ensures), coordinate-end _ (c .before .before .before .before .before .before .before .put-coordinate2 .ensures), coordinate-end _ (c .before .before .before .before .before .before .before .before .before .before .before .put-coordinate .ensures), far (c .before .before .before .before .before .before .before .before .before .before .before .before .before .before .before), c .before .before .before .before .before .before .before .before .before .before .before .before .before .before .before .before .before .before .before .before .pre)
 
-same-length : tie.Need-same-length
-same-length c = search needs
-
 returns : tie.Need-returns
 unfolding entryLine entryNamed
 returns c = wrote-is _ (wrote-then (c .before .before .before .before .before .before .before .before .before .before .before .before .before .before .before .before .before .before .put-lowered .ensures) (wrote-then (c .before .before .before .before .before .before .before .before .before .before .before .before .before .before .put-coordinate .ensures) (wrote-then (c .before .before .before .before .before .before .before .before .before .before .put-coordinate2 .ensures) (wrote-then (c .before .before .before .before .before .before .put-coordinate3 .ensures) (c .before .before .put-byte .ensures))))) (entry-bytes _ _ _ _)
@@ -44,11 +33,4 @@ returns c = wrote-is _ (wrote-then (c .before .before .before .before .before .b
 pub put-entry-spec : {M : Type 1} → statement M
 put-entry-spec =
     tie.close
-    (tie.spec
-    put-lowered-requires
-    put-coordinate-requires
-    put-coordinate-requires-2
-    put-coordinate-requires-3
-    put-byte-requires
-    same-length
-    returns)
+    (tie.spec (search needs) put-coordinate-requires put-coordinate-requires-2 put-coordinate-requires-3 put-byte-requires (search needs) returns)

@@ -11,11 +11,6 @@ use Rattle.layout.proofs.WholeLaws.{head-end, kept-rooms, kept-tracks, 
 use borrow.Author.Needs.{needs}
 use Rattle.layout.proofs.put_form.Statement.{statement}
 use Rattle.layout.proofs.put_form.Tie as tie
-use Rattle.layout.proofs.put_form.Reads as reads
-use Rattle.layout.proofs.put_form.Lts as lts
-use Rattle.layout.proofs.put_head.Reads as put-head-reads
-use Rattle.layout.proofs.put_key.Reads as put-key-reads
-use Rattle.layout.proofs.put_section.Reads as put-section-reads
 
 -- the array has its places
 sized : (g : tie.Start) → length (g .args .r .starts) ≡ 192
@@ -43,7 +38,9 @@ slice-aggregate-put-section-2 : tie.Need-slice-aggregate-put-section-2
 slice-aggregate-put-section-2 c = search needs
 
 put-section-requires : tie.Need-put-section-requires
-put-section-requires c κs = let g = c .before .before .before .before .before .before .before .before .before .before .before .before in ((omega (arith, first (c .before .before .before .before .before)), (omega arith, g .pre .1)), kept-rooms _ _ (sized g) (g .pre .0))
+put-section-requires c κs =
+    let g = c .before .before .before .before .before .before .before .before .before .before .before .before in
+    ((omega (arith, first (c .before .before .before .before .before)), (omega arith, g .pre .1)), kept-rooms _ _ (sized g) (g .pre .0))
 
 slice-aggregate-put-section-3 : tie.Need-slice-aggregate-put-section-3
 slice-aggregate-put-section-3 c = search needs
@@ -52,7 +49,9 @@ slice-aggregate-put-section-4 : tie.Need-slice-aggregate-put-section-4
 slice-aggregate-put-section-4 c = search needs
 
 put-section-requires-2 : tie.Need-put-section-requires-2
-put-section-requires-2 c κs = let g = c .before .before .before .before .before .before .before .before .before .before .before .before .before .before .before .before .before .before in ((omega (arith, c .before .before .before .before .before .put-section .ensures .1, first (c .before .before .before .before .before .before .before .before .before .before .before)), (omega arith, g .pre .1)), kept-tracks _ _ (sized g) (g .pre .0))
+put-section-requires-2 c κs =
+    let g = c .before .before .before .before .before .before .before .before .before .before .before .before .before .before .before .before .before .before in
+    ((omega (arith, c .before .before .before .before .before .put-section .ensures .1, first (c .before .before .before .before .before .before .before .before .before .before .before)), (omega arith, g .pre .1)), kept-tracks _ _ (sized g) (g .pre .0))
 
 slice-aggregate-put-section-5 : tie.Need-slice-aggregate-put-section-5
 slice-aggregate-put-section-5 c = search needs
@@ -61,7 +60,9 @@ slice-aggregate-put-section-6 : tie.Need-slice-aggregate-put-section-6
 slice-aggregate-put-section-6 c = sym (sized (c .before .before .before .before .before .before .before .before .before .before .before .before .before .before .before .before .before .before .before .before .before .before .before .before))
 
 put-section-requires-3 : tie.Need-put-section-requires-3
-put-section-requires-3 c κs = let g = c .before .before .before .before .before .before .before .before .before .before .before .before .before .before .before .before .before .before .before .before .before .before .before .before in ((omega (arith, c .before .before .before .before .before .put-section2 .ensures .1, c .before .before .before .before .before .before .before .before .before .before .before .put-section .ensures .1, first (c .before .before .before .before .before .before .before .before .before .before .before .before .before .before .before .before .before)), (omega arith, g .pre .1)), kept-obstacles _ _ (sized g) (g .pre .0))
+put-section-requires-3 c κs =
+    let g = c .before .before .before .before .before .before .before .before .before .before .before .before .before .before .before .before .before .before .before .before .before .before .before .before in
+    ((omega (arith, c .before .before .before .before .before .put-section2 .ensures .1, c .before .before .before .before .before .before .before .before .before .before .before .put-section .ensures .1, first (c .before .before .before .before .before .before .before .before .before .before .before .before .before .before .before .before .before)), (omega arith, g .pre .1)), kept-obstacles _ _ (sized g) (g .pre .0))
 
 slice-aggregate-put-head : tie.Need-slice-aggregate-put-head
 slice-aggregate-put-head c = search needs
@@ -81,7 +82,9 @@ same-length c = wrote-long (let g = c .before .before .before .before .before .b
 
 returns : tie.Need-returns
 unfolding beginlayout roomcount trackcount obstaclecount doorhookcount donelayout
-returns c = let g = c .before .before .before .before .before .before .before .before .before .before .before .before .before .before .before .before .before .before .before .before .before .before .before .before .before .before .before .before .before .before .before .before .before .before .before .before .before in form-wrote (g .args .s .now) (g .args .r) (sized g) (g .pre .0) (g .args .i) (g .args .name .now) (c .before .before .before .before .before .before .before .before .before .before .before .before .before .before .before .before .before .before .before .before .before .before .before .before .before .before .before .before .before .before .put-key .ensures) (c .before .before .before .before .before .before .before .before .before .before .before .before .before .before .before .before .before .before .before .before .before .before .before .before .put-section .ensures .0) (c .before .before .before .before .before .before .before .before .before .before .before .before .before .before .before .before .before .before .put-section2 .ensures .0) (c .before .before .before .before .before .before .before .before .before .before .before .before .put-section3 .ensures .0) (c .before .before .before .before .before .before .before .put-head .ensures) (c .before .before .put-key2 .ensures)
+returns c =
+    let g = c .before .before .before .before .before .before .before .before .before .before .before .before .before .before .before .before .before .before .before .before .before .before .before .before .before .before .before .before .before .before .before .before .before .before .before .before .before in
+    form-wrote (g .args .s .now) (g .args .r) (sized g) (g .pre .0) (g .args .i) (g .args .name .now) (c .before .before .before .before .before .before .before .before .before .before .before .before .before .before .before .before .before .before .before .before .before .before .before .before .before .before .before .before .before .before .put-key .ensures) (c .before .before .before .before .before .before .before .before .before .before .before .before .before .before .before .before .before .before .before .before .before .before .before .before .put-section .ensures .0) (c .before .before .before .before .before .before .before .before .before .before .before .before .before .before .before .before .before .before .put-section2 .ensures .0) (c .before .before .before .before .before .before .before .before .before .before .before .before .put-section3 .ensures .0) (c .before .before .before .before .before .before .before .put-head .ensures) (c .before .before .put-key2 .ensures)
 
 pub put-form-spec : {M : Type 1} → statement M
 put-form-spec =

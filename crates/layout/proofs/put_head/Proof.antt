@@ -6,26 +6,11 @@ use Rattle.layout.proofs.PrintLaws.{wrote-is, head-bytes}
 use borrow.Author.Needs.{needs}
 use Rattle.layout.proofs.put_head.Statement.{statement}
 use Rattle.layout.proofs.put_head.Tie as tie
-use Rattle.layout.proofs.put_head.Reads as reads
-use Rattle.layout.proofs.put_head.Lts as lts
-use Rattle.text.proofs.put_byte.Reads as put-byte-reads
-use Rattle.text.proofs.put_plain.Reads as put-plain-reads
-use Rattle.text.proofs.put_word.Reads as put-word-reads
-
-put-word-requires : tie.Need-put-word-requires
-put-word-requires c κs = search needs
-
-put-byte-requires : tie.Need-put-byte-requires
-put-byte-requires c κs = search needs
-
-put-plain-requires : tie.Need-put-plain-requires
-put-plain-requires c κs = search needs
 
 put-byte-requires-2 : tie.Need-put-byte-requires-2
-put-byte-requires-2 c κs = let g = c .before .before .before .before .before .before .before .before .before .before .before .before .before .before .before in omega (arith, c .before .before .before .put-plain .ensures .next, c .before .before .before .before .before .before .before .put-byte .ensures .next, c .before .before .before .before .before .before .before .before .before .before .before .put-word .ensures .next, plain-short (g .args .n), g .pre)
-
-same-length : tie.Need-same-length
-same-length c = search needs
+put-byte-requires-2 c κs =
+    let g = c .before .before .before .before .before .before .before .before .before .before .before .before .before .before .before in
+    omega (arith, c .before .before .before .put-plain .ensures .next, c .before .before .before .before .before .before .before .put-byte .ensures .next, c .before .before .before .before .before .before .before .before .before .before .before .put-word .ensures .next, plain-short (g .args .n), g .pre)
 
 returns : tie.Need-returns
 returns c = wrote-is _ (wrote-then (c .before .before .before .before .before .before .before .before .before .before .before .before .before .before .put-word .ensures) (wrote-then (c .before .before .before .before .before .before .before .before .before .before .put-byte .ensures) (wrote-then (c .before .before .before .before .before .before .put-plain .ensures) (c .before .before .put-byte2 .ensures)))) (head-bytes _ _)
@@ -33,10 +18,4 @@ returns c = wrote-is _ (wrote-then (c .before .before .before .before .before .b
 pub put-head-spec : {M : Type 1} → statement M
 put-head-spec =
     tie.close
-    (tie.spec
-    put-word-requires
-    put-byte-requires
-    put-plain-requires
-    put-byte-requires-2
-    same-length
-    returns)
+    (tie.spec (search needs) (search needs) (search needs) put-byte-requires-2 (search needs) returns)

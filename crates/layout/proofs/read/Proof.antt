@@ -6,17 +6,6 @@ use Rattle.layout.proofs.ScanLaws.{answered-unsound, answered-sound}
 use borrow.Author.Needs.{needs}
 use Rattle.layout.proofs.read.Statement.{statement}
 use Rattle.layout.proofs.read.Tie as tie
-use Rattle.layout.proofs.read.Reads as reads
-use Rattle.layout.proofs.read.Lts as lts
-use Rattle.layout.proofs.read_lines.Reads as read-lines-reads
-use Rattle.layout.proofs.refused_layout.Reads as refused-layout-reads
-use Rattle.text.proofs.sound_verdict.Reads as sound-verdict-reads
-
-sound-verdict-requires : tie.Need-sound-verdict-requires
-sound-verdict-requires c κs = search needs
-
-refused-layout-requires : tie.Need-refused-layout-requires
-refused-layout-requires c κs = search needs
 
 returns : tie.Need-returns
 returns c = answered-unsound _ _ _ (c .before .before .before .sound-verdict .ensures) (c .before .if1 .taken) (c .refused-layout .ensures)
@@ -30,4 +19,4 @@ returns-2 c = answered-sound _ _ _ (c .before .before .before .sound-verdict .en
 pub read-spec : {M : Type 1} → statement M
 read-spec =
     tie.close
-    (tie.spec sound-verdict-requires refused-layout-requires returns read-lines-requires returns-2)
+    (tie.spec (search needs) (search needs) returns read-lines-requires returns-2)

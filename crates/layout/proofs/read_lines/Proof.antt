@@ -14,14 +14,6 @@ use Rattle.layout.proofs.StepLaws.{Fits, slot-inside}
 use Rattle.layout.proofs.ScanLaws.{rest, started, named, done, not-done, scan-end, start-good, finish-early, finish-right, found-stopped, found-right, turn-stops, turn-more}
 use Rattle.layout.proofs.read_lines.Statement.{statement}
 use Rattle.layout.proofs.read_lines.Tie as tie
-use Rattle.layout.proofs.read_lines.Reads as reads
-use Rattle.layout.proofs.read_lines.Lts as lts
-use Rattle.layout.proofs.keep.Reads as keep-reads
-use Rattle.layout.proofs.line_fault.Reads as line-fault-reads
-use Rattle.layout.proofs.moved.Reads as moved-reads
-use Rattle.layout.proofs.refused_layout.Reads as refused-layout-reads
-use Rattle.text.proofs.line_at.Reads as line-at-reads
-use Rattle.text.proofs.line_end.Reads as line-end-reads
 
 abbrev Inv-loop : tie.InvT-loop
 Inv-loop s starts₀ st₀ at₀ passed₀ starts st at passed = Fits st × (Good (stateOf s starts st) × ((passed ≤ at) × ((at ≤ length s + 1) × ((grammar s ≡ readFrom passed (stateOf s starts st) (rest s at)) × (length starts ≡ 192)))))
@@ -44,31 +36,34 @@ slice-aggregate-line-fault : tie.Need-slice-aggregate-line-fault Inv-loop μ-loo
 slice-aggregate-line-fault c = sym (sized (c .before .before))
 
 line-fault-requires : tie.Need-line-fault-requires Inv-loop μ-loop
-line-fault-requires c κs = let z = c .before .before in let g = z .before .before in (sized z, (z .loop .inv .0 .0, named (g .args .s .now) (z .loop .starts) (z .loop .st) (sized z) (z .loop .inv .0) (z .loop .inv .1 .0)))
+line-fault-requires c κs =
+    let z = c .before .before in
+    let g = z .before .before in
+    (sized z, (z .loop .inv .0 .0, named (g .args .s .now) (z .loop .starts) (z .loop .st) (sized z) (z .loop .inv .0) (z .loop .inv .1 .0)))
 
 add-passed : tie.Need-add-passed Inv-loop μ-loop
-add-passed c = let z = c .before .before .before in omega (arith, z .loop .inv .1 .1 .0, c .before .before .loop-test .taken, z .before .before .pre)
+add-passed c =
+    let z = c .before .before .before in
+    omega (arith, z .loop .inv .1 .1 .0, c .before .before .loop-test .taken, z .before .before .pre)
 
 cast-refused-layout : tie.Need-cast-refused-layout Inv-loop μ-loop
-cast-refused-layout c = let z = c .before .before .before .before in omega (arith, z .loop .inv .1 .1 .0, c .before .before .before .loop-test .taken, z .before .before .pre)
-
-refused-layout-requires : tie.Need-refused-layout-requires Inv-loop μ-loop
-refused-layout-requires c κs = search needs
+cast-refused-layout c =
+    let z = c .before .before .before .before in
+    omega (arith, z .loop .inv .1 .1 .0, c .before .before .before .loop-test .taken, z .before .before .pre)
 
 returns : tie.Need-returns Inv-loop μ-loop
-returns c = let z = c .before .before .before .before .before in turn-stops _ _ _ _ _ _ (sized z) (z .loop .inv .0) (z .loop .inv .1 .0) (z .loop .inv .1 .1 .1 .1 .0) (c .before .before .before .before .loop-test .taken) (c .before .before .line-fault .ensures) _ (c .before .if1 .taken) (c .refused-layout .ensures)
+returns c =
+    let z = c .before .before .before .before .before in
+    turn-stops _ _ _ _ _ _ (sized z) (z .loop .inv .0) (z .loop .inv .1 .0) (z .loop .inv .1 .1 .1 .1 .0) (c .before .before .before .before .loop-test .taken) (c .before .before .line-fault .ensures) _ (c .before .if1 .taken) (c .refused-layout .ensures)
 
 keep-requires : tie.Need-keep-requires Inv-loop μ-loop
-keep-requires c κs = let z = c .before .before .before .before .before in let g = z .before .before in (z .loop .inv .0 .1 .0, (z .loop .inv .0 .1 .1, slot-inside (g .args .s .now) (z .loop .starts) (z .loop .st) (sized z) (z .loop .inv .0) (z .loop .inv .1 .0)))
-
-line-at-requires : tie.Need-line-at-requires Inv-loop μ-loop
-line-at-requires c κs = search needs
+keep-requires c κs =
+    let z = c .before .before .before .before .before in
+    let g = z .before .before in
+    (z .loop .inv .0 .1 .0, (z .loop .inv .0 .1 .1, slot-inside (g .args .s .now) (z .loop .starts) (z .loop .st) (sized z) (z .loop .inv .0) (z .loop .inv .1 .0)))
 
 moved-requires : tie.Need-moved-requires Inv-loop μ-loop
 moved-requires c κs = let z = c .before .before .before .before .before .before .before in z .loop .inv .0
-
-line-end-requires : tie.Need-line-end-requires Inv-loop μ-loop
-line-end-requires c κs = search needs
 
 add-at : tie.Need-add-at Inv-loop μ-loop
 add-at c = omega (arith, ends c)
@@ -77,41 +72,27 @@ loop-less : tie.Need-loop-less Inv-loop μ-loop
 loop-less c = omega (arith, ends c, c .before .before .before .before .before .before .before .before .loop-test .taken)
 
 loop-again : tie.Need-loop-again Inv-loop μ-loop
-loop-again c = let z = c .before .before .before .before .before .before .before .before .before in let m = turn-more _ _ _ _ _ _ (sized z) (z .loop .inv .0) (z .loop .inv .1 .0) (z .loop .inv .1 .1 .1 .1 .0) (c .before .before .before .before .before .before .before .before .loop-test .taken) (c .before .before .before .before .before .before .line-fault .ensures) _ _ _ _ (c .before .before .before .before .before .if1 .left) (c .before .before .before .keep .ensures) (c .before .before .line-at .ensures) (c .before .moved .ensures) (c .line-end .ensures) in (m .0, (m .1 .0, (omega (arith, ends c, z .loop .inv .1 .1 .0), (omega (arith, ends c), (m .1 .1 .0, m .1 .1 .1)))))
+loop-again c =
+    let z = c .before .before .before .before .before .before .before .before .before in
+    let m = turn-more _ _ _ _ _ _ (sized z) (z .loop .inv .0) (z .loop .inv .1 .0) (z .loop .inv .1 .1 .1 .1 .0) (c .before .before .before .before .before .before .before .before .loop-test .taken) (c .before .before .before .before .before .before .line-fault .ensures) _ _ _ _ (c .before .before .before .before .before .if1 .left) (c .before .before .before .keep .ensures) (c .before .before .line-at .ensures) (c .before .moved .ensures) (c .line-end .ensures) in
+    (m .0, (m .1 .0, (omega (arith, ends c, z .loop .inv .1 .1 .0), (omega (arith, ends c), (m .1 .1 .0, m .1 .1 .1)))))
 
 cast-refused-layout-2 : tie.Need-cast-refused-layout-2 Inv-loop μ-loop
-cast-refused-layout-2 c = let z = c .before .before .before in omega (arith, z .loop .inv .1 .1 .0, z .loop .inv .1 .1 .1 .0, z .before .before .pre)
-
-refused-layout-requires-2 : tie.Need-refused-layout-requires-2 Inv-loop μ-loop
-refused-layout-requires-2 c κs = search needs
+cast-refused-layout-2 c =
+    let z = c .before .before .before in
+    omega (arith, z .loop .inv .1 .1 .0, z .loop .inv .1 .1 .1 .0, z .before .before .pre)
 
 returns-2 : tie.Need-returns-2 Inv-loop μ-loop
-returns-2 c = let z = c .before .before .before .before in found-stopped _ _ _ _ _ (z .loop .inv .1 .1 .1 .1 .0 ∙ scan-end _ _ _ _ (c .before .before .before .loop-test .left) ∙ finish-early _ _ (not-done _ _ _ (c .before .if2 .taken))) (c .refused-layout2 .ensures)
+returns-2 c =
+    let z = c .before .before .before .before in
+    found-stopped _ _ _ _ _ (z .loop .inv .1 .1 .1 .1 .0 ∙ scan-end _ _ _ _ (c .before .before .before .loop-test .left) ∙ finish-early _ _ (not-done _ _ _ (c .before .if2 .taken))) (c .refused-layout2 .ensures)
 
 returns-3 : tie.Need-returns-3 Inv-loop μ-loop
-returns-3 c = let z = c .before .before .before in found-right _ (z .loop .starts) (z .loop .st) _ _ (z .loop .inv .1 .1 .1 .1 .0 ∙ scan-end _ _ _ _ (c .before .before .loop-test .left) ∙ finish-right _ _ (done _ _ _ (c .if2 .left))) (z .loop .inv .0) refl refl refl refl refl refl
+returns-3 c =
+    let z = c .before .before .before in
+    found-right _ (z .loop .starts) (z .loop .st) _ _ (z .loop .inv .1 .1 .1 .1 .0 ∙ scan-end _ _ _ _ (c .before .before .loop-test .left) ∙ finish-right _ _ (done _ _ _ (c .if2 .left))) (z .loop .inv .0) refl refl refl refl refl refl
 
 pub read-lines-spec : {M : Type 1} → statement M
 read-lines-spec =
     tie.close
-    (tie.spec
-    Inv-loop
-    μ-loop
-    loop-holds
-    slice-aggregate-line-fault
-    line-fault-requires
-    add-passed
-    cast-refused-layout
-    refused-layout-requires
-    returns
-    keep-requires
-    line-at-requires
-    moved-requires
-    line-end-requires
-    add-at
-    loop-less
-    loop-again
-    cast-refused-layout-2
-    refused-layout-requires-2
-    returns-2
-    returns-3)
+    (tie.spec Inv-loop μ-loop loop-holds slice-aggregate-line-fault line-fault-requires add-passed cast-refused-layout (search needs) returns keep-requires (search needs) moved-requires (search needs) add-at loop-less loop-again cast-refused-layout-2 (search needs) returns-2 returns-3)

@@ -7,15 +7,6 @@ use Rattle.layout.proofs.AnswerLaws.{rooms-told}
 use borrow.Author.Needs.{needs}
 use Rattle.layout.proofs.room_count.Statement.{statement}
 use Rattle.layout.proofs.room_count.Tie as tie
-use Rattle.layout.proofs.room_count.Reads as reads
-use Rattle.layout.proofs.room_count.Lts as lts
-use Rattle.layout.proofs.read.Reads as read-reads
-
-read-requires : tie.Need-read-requires
-read-requires c κs = search needs
-
-cast-t3 : tie.Need-cast-t3
-cast-t3 c = search needs
 
 -- the array has its places
 sized : (c : tie.After-read) → length (c .read .result .starts) ≡ 192
@@ -25,4 +16,4 @@ returns : tie.Need-returns
 returns c = rooms-told _ _ (sized (c .before)) (c .before .read .ensures)
 
 pub room-count-spec : {M : Type 1} → statement M
-room-count-spec = tie.close (tie.spec read-requires cast-t3 returns)
+room-count-spec = tie.close (tie.spec (search needs) (search needs) returns)

@@ -3,23 +3,15 @@ use Rattle.layout.proofs.HeldLaws.{slot-room, slot-track, slot-obstacle
 use borrow.Author.Needs.{needs}
 use Rattle.layout.proofs.slot.Statement.{statement}
 use Rattle.layout.proofs.slot.Tie as tie
-use Rattle.layout.proofs.slot.Reads as reads
-use Rattle.layout.proofs.slot.Lts as lts
 
 returns : tie.Need-returns
 returns c = slot-room _ (c .if1 .taken)
 
-add-result : tie.Need-add-result
-add-result c = search needs
-
 returns-2 : tie.Need-returns-2
 returns-2 c = let d = c .before in slot-track _ (d .before .before .if1 .left) (d .if2 .taken)
-
-add-result-2 : tie.Need-add-result-2
-add-result-2 c = search needs
 
 returns-3 : tie.Need-returns-3
 returns-3 c = let d = c .before in slot-obstacle _ (d .before .before .if1 .left) (d .if2 .left)
 
 pub slot-spec : {M : Type 1} → statement M
-slot-spec = tie.close (tie.spec returns add-result returns-2 add-result-2 returns-3)
+slot-spec = tie.close (tie.spec returns (search needs) returns-2 (search needs) returns-3)

@@ -2,8 +2,6 @@
 use Rattle.layout.proofs.LineLaws.{words-low, words-mid, words-high}
 use Rattle.layout.proofs.words_of.Statement.{statement}
 use Rattle.layout.proofs.words_of.Tie as tie
-use Rattle.layout.proofs.words_of.Reads as reads
-use Rattle.layout.proofs.words_of.Lts as lts
 
 returns : tie.Need-returns
 returns c = words-low _ (c .if1 .taken)

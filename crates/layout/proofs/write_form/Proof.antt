@@ -3,9 +3,6 @@ use Rattle.layout.proofs.WholeLaws.{too-short, long-enough}
 use borrow.Author.Needs.{needs}
 use Rattle.layout.proofs.write_form.Statement.{statement}
 use Rattle.layout.proofs.write_form.Tie as tie
-use Rattle.layout.proofs.write_form.Reads as reads
-use Rattle.layout.proofs.write_form.Lts as lts
-use Rattle.layout.proofs.put_form.Reads as put-form-reads
 
 slice-relend-prefix-put-form : tie.Need-slice-relend-prefix-put-form
 slice-relend-prefix-put-form c = search needs
@@ -20,7 +17,9 @@ same-length : tie.Need-same-length
 same-length c = search needs
 
 returns : tie.Need-returns
-returns c = let g = c .before .before .before .before .before .before .before .before in too-short _ (g .args .out .now) _ _ (c .before .before .before .put-form .ensures) (c .if1 .taken)
+returns c =
+    let g = c .before .before .before .before .before .before .before .before in
+    too-short _ (g .args .out .now) _ _ (c .before .before .before .put-form .ensures) (c .if1 .taken)
 
 put-form-requires-2 : tie.Need-put-form-requires-2
 put-form-requires-2 c κs = search needs
@@ -32,7 +31,9 @@ same-length-2 : tie.Need-same-length-2
 same-length-2 c = search needs
 
 returns-2 : tie.Need-returns-2
-returns-2 c = let g = c .before .before .before .before .before .before .before .before .before .before .before .before in long-enough _ (g .args .out .now) _ _ (c .before .before .before .before .before .before .before .put-form .ensures) _ _ (g .pre .1) (c .before .before .before .before .if1 .left) (c .before .before .put-form2 .ensures)
+returns-2 c =
+    let g = c .before .before .before .before .before .before .before .before .before .before .before .before in
+    long-enough _ (g .args .out .now) _ _ (c .before .before .before .before .before .before .before .put-form .ensures) _ _ (g .pre .1) (c .before .before .before .before .if1 .left) (c .before .before .put-form2 .ensures)
 
 pub write-form-spec : {M : Type 1} → statement M
 write-form-spec =
