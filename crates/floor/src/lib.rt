@@ -150,11 +150,11 @@ pub fn rewrite(bytes: &[u8], work: &mut [u8], out: &mut [u8]) -> Form
     ensures memory { λ _. ⌜ now (work .exit) ≡ readerMemory (now (work .entry)) ⌝ }
     ensures output { λ _. ⌜ now (out .exit) ≡ rewriteMemory (now (bytes .entry)) (length (now (work .entry))) (now (out .entry)) ⌝ }
 {
-    let so = rewrite_verdict(bytes, work, out);
-    if so.number != 0 {
+    let found = rewrite_verdict(bytes, work, out);
+    if found.number != 0 {
         return Form {
-            number: so.number,
-            place: so.place,
+            number: found.number,
+            place: found.place,
             length: 0,
         };
     }
