@@ -13,11 +13,13 @@ use Rattle.verdict.specs.Verdict.{accepted, refused, rule, _then_}
 use Rattle.verdict.proofs.Verdict.{then-next, then-stop}
 use Rattle.text.specs.Scan.{words, lineAt}
 use Rattle.text.specs.Name.{isName, lowered}
+use Rattle.text.proofs.NameLaws.{name-long}
 use Rattle.layout.specs.declared.Layout.{Layout}
 use Rattle.layout.specs.declared.Rooms.{Rooms}
-use Rattle.layout.specs.Grammar.{Word, Line, nth, namesOf}
+use Rattle.text.specs.Reading.{Word, Line, nth}
+use Rattle.layout.specs.Grammar.{namesOf}
 use Rattle.layout.specs.Layout.{layoutVerdict, layoutOf, entryOf, partsOf, partsOfTyped, formText}
-use Rattle.layout.specs.Rewrite.{renamed, renamedForm, knownBut, roomNames, roomsOf, rule40, rewriteVerdict, renameVerdict}
+use Rattle.layout.specs.Rewrite.{renamed, renamedForm, knownBut, roomNames, roomsOf, rule40, rewriteVerdict, nameVerdict, renameVerdict}
 use Rattle.layout.specs.Caption.{hasRoom, roomName, captionOf, captionNumber}
 use Rattle.layout.specs.Starts.{entryAt, held, Named, keptName, Answered}
 use Rattle.layout.proofs.EachLaws.{length-names}
@@ -25,8 +27,8 @@ use Rattle.layout.proofs.ReadLaws.{layout-good, verdict-proper}
 use Rattle.layout.proofs.HeldLaws.{held-long, room-name, rooms-named}
 use Rattle.layout.proofs.FormTrip.{form-within}
 use Rattle.layout.proofs.LengthLaws.{form-short}
-use Rattle.layout.proofs.RenameLaws.{renamed-past, renamed-good}
-use Rattle.layout.proofs.WholeLaws.{Answers, refused-form}
+use Rattle.layout.proofs.RenameLaws.{renamed-past, renamed-good, Names, names}
+use Rattle.layout.proofs.WholeLaws.{Answers, refused-form, first-refuses, second-refuses, third-decides}
 
 -- ---- the rooms of a layout, by what the reader answered
 
@@ -95,51 +97,47 @@ module _ (s : List ℕ) (r : Layout) (sized : length (r .starts) ≡ 192) (a : A
 
   -- ---- with another name
 
-  module _ (i : ℕ) (w : Word) (o : List ℕ) where
-    pub rename-refused : (r .number ≡ 0 → ⊥) → Answers (record { number = r .number; place = r .place; length = 0 }) o (renameVerdict s i w (length o)) (renamedForm s i w) o
-    rename-refused z = refused-form (renameVerdict s i w (length o)) (renamedForm s i w) o _ _ (stop ∙ verdict-is) z
-      where
-        n : layoutVerdict s .number ≡ 0 → ⊥
-        n y = z (sym (ap (λ (v : Answer). v .number) verdict-is) ∙ y)
+  module _ (i : ℕ) (w : Word) where
+    pub name-21 : r .rooms ≤ i → refused 21 i ≡ nameVerdict s i w
+    unfolding nameVerdict rule _then_
+    name-21 h = rw (le-ltb i (length (roomNames s)) (omega (arith, rooms-are)))
 
-        stop : renameVerdict s i w (length o) ≡ layoutVerdict s
-        stop = unfold renameVerdict in (rw (then-stop (layoutVerdict s) n, then-stop (layoutVerdict s) n, then-stop (layoutVerdict s) n) (then-stop (layoutVerdict s) n _))
+    module _ (h : i < r .rooms) where
+      inside : ltb i (length (roomNames s)) ≡ true
+      inside = lt-ltb i (length (roomNames s)) (omega (arith, rooms-are))
 
-    module _ (z : r .number ≡ 0) where
-      pub rename-21 : r .rooms ≤ i → Answers (record { number = 21; place = i; length = 0 }) o (renameVerdict s i w (length o)) (renamedForm s i w) o
-      rename-21 h = refused-form _ (renamedForm s i w) o 21 i to (λ y. omega arith)
-        where
-          to : renameVerdict s i w (length o) ≡ refused 21 i
-          to = unfold renameVerdict rule _then_ in (rw (verdict-accepts z, le-ltb i (length (roomNames s)) (omega (arith, rooms-are))))
+      pub name-34 : isName w ≡ false → refused 34 0 ≡ nameVerdict s i w
+      unfolding nameVerdict rule _then_
+      name-34 e = rw (inside, e)
 
-      module _ (h : i < r .rooms) where
-        inside : ltb i (length (roomNames s)) ≡ true
-        inside = lt-ltb i (length (roomNames s)) (omega (arith, rooms-are))
+      pub name-37 : (k : Bool) → isName w ≡ true → k ≡ knownBut i w (namesOf (held s (r .starts) 0 (r .rooms))) → rule 37 k 0 ≡ nameVerdict s i w
+      unfolding nameVerdict rule _then_
+      name-37 k e ek = rw (inside, e, ek, names-are)
 
-        pub rename-34 : isName w ≡ false → Answers (record { number = 34; place = 0; length = 0 }) o (renameVerdict s i w (length o)) (renamedForm s i w) o
-        rename-34 e = refused-form _ (renamedForm s i w) o 34 0 to (λ y. omega arith)
-          where
-            to : renameVerdict s i w (length o) ≡ refused 34 0
-            to = unfold renameVerdict rule _then_ in (rw (verdict-accepts z, inside, e))
+    -- the name's verdict, once the layout's accepts
+    module _ (o : List ℕ) (v : Answer) (ev : v ≡ nameVerdict s i w) where
+      pub rename-refused : (r .number ≡ 0 → ⊥) → Answers (record { number = r .number; place = r .place; length = 0 }) o (renameVerdict s i w (length o)) (renamedForm s i w) o
+      unfolding renameVerdict
+      rename-refused z = first-refuses (layoutVerdict s) _ _ (renamedForm s i w) o _ _ verdict-is z
 
-        module _ (e : isName w ≡ true) (k : Bool) (ek : k ≡ knownBut i w (namesOf (held s (r .starts) 0 (r .rooms)))) where
-          known-is : (t : Bool) → k ≡ t → knownBut i w (roomNames s) ≡ t
-          known-is t q = rw (← names-are) (sym ek ∙ q)
+      module _ (z : r .number ≡ 0) where
+        pub rename-unnamed : (v .number ≡ 0 → ⊥) → Answers (record { number = v .number; place = v .place; length = 0 }) o (renameVerdict s i w (length o)) (renamedForm s i w) o
+        unfolding renameVerdict
+        rename-unnamed n = second-refuses (layoutVerdict s) _ _ (renamedForm s i w) o v (verdict-accepts z) ev n
 
-          pub rename-37 : k ≡ true → Answers (record { number = 37; place = 0; length = 0 }) o (renameVerdict s i w (length o)) (renamedForm s i w) o
-          rename-37 q = refused-form _ (renamedForm s i w) o 37 0 to (λ y. omega arith)
-            where
-              to : renameVerdict s i w (length o) ≡ refused 37 0
-              to = unfold renameVerdict rule _then_ in (rw (verdict-accepts z, inside, e, known-is true q))
+        module _ (y : v .number ≡ 0) where
+          named : Names s i w
+          named = names s i w (sym (ap (λ (x : Answer). x .number) ev) ∙ y)
 
-          pub rename-short : k ≡ false → length (renamedForm s i w) ≤ 12000
-          rename-short q = form-short (renamed (partsOf s) i w) (renamed-good s i w e (known-is false q))
+          pub rename-name : length w ≤ 16
+          rename-name = name-long w (named .name) .1
 
-          pub rename-by : (f : Form) (new : List ℕ) → k ≡ false → Answers f new (rule40 (renamedForm s i w) (length o)) (renamedForm s i w) o → Answers f new (renameVerdict s i w (length o)) (renamedForm s i w) o
-          rename-by f new q h = rw to h
-            where
-              to : renameVerdict s i w (length o) ≡ rule40 (renamedForm s i w) (length o)
-              to = unfold renameVerdict rule _then_ in (rw (verdict-accepts z, inside, e, known-is false q))
+          pub rename-short : length (renamedForm s i w) ≤ 12000
+          rename-short = form-short (renamed (partsOf s) i w) (renamed-good s i w (named .name) (named .new))
+
+          pub rename-by : (f : Form) (new : List ℕ) → Answers f new (rule40 (renamedForm s i w) (length o)) (renamedForm s i w) o → Answers f new (renameVerdict s i w (length o)) (renamedForm s i w) o
+          unfolding renameVerdict
+          rename-by f new = third-decides (layoutVerdict s) _ _ f new (renamedForm s i w) o v (verdict-accepts z) ev y
 
 -- ---- captions, in order
 

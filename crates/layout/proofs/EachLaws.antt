@@ -11,7 +11,8 @@ use lib.Seq.{getD-append-add}
 use Rattle.verdict.proofs.Lists.{map-at}
 use Rattle.verdict.proofs.Lowest.{none-under, under-none}
 use Rattle.text.specs.Name.{sameName}
-use Rattle.layout.specs.Grammar.{Word, Line, nth, namesOf, known}
+use Rattle.text.specs.Reading.{Word, Line, nth}
+use Rattle.layout.specs.Grammar.{namesOf, known}
 
 -- each entry has it
 abbrev pub Each : {A : Type 0} → (A → Type 0) → List A → Type 0

@@ -9,7 +9,8 @@ use lib.ListN.{length}
 use borrow.Author.Tests.{eq-eqb, ne-eqb, lt-ltb, le-ltb}
 use Rattle.text.specs.Scan.{words, lineAt}
 use Rattle.text.specs.Name.{isName}
-use Rattle.layout.specs.Grammar.{Word, Line, nth, State, opens, placed, openFault, entryFault, fault, namesOf, known}
+use Rattle.text.specs.Reading.{Word, Line, nth}
+use Rattle.layout.specs.Grammar.{State, opens, placed, openFault, entryFault, fault, namesOf, known}
 use Rattle.layout.specs.Rewrite.{knownBut}
 use Rattle.layout.specs.Starts.{entryAt}
 use Rattle.layout.proofs.EachLaws.{length-names}

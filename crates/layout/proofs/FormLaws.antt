@@ -14,12 +14,13 @@ use Rattle.text.specs.Class.{within}
 use Rattle.text.specs.Name.{same}
 use Rattle.text.specs.Count.{value, isCount}
 use Rattle.text.specs.Number.{plain}
+use Rattle.text.proofs.ReadingLaws.{read-next, read-end}
 use Rattle.text.proofs.CountLaws.{plain-value, plain-count}
-use Rattle.layout.specs.Grammar.{Word, Line, nth, Typed, nothing, State, start, Reading, sectionOf, follows, opens, withEntry, namesOf, known, placed, entryFault, wordsOf, countRight, openFault, fault, next, finish, readFrom, beginlayout, roomcount, trackcount, obstaclecount, doorhookcount, donelayout}
+use Rattle.text.specs.Reading.{Word, Line, nth}
+use Rattle.layout.specs.Grammar.{layoutGrammar, Typed, nothing, State, start, Reading, sectionOf, follows, opens, withEntry, namesOf, known, placed, entryFault, wordsOf, countRight, openFault, fault, next, finish, readFrom, beginlayout, roomcount, trackcount, obstaclecount, doorhookcount, donelayout}
 use Rattle.layout.specs.Layout.{Entry, LayoutParts, entryLine, section, form}
 use Rattle.layout.proofs.EachLaws.{Each, Apart, apart-before}
 use Rattle.layout.proofs.GoodLaws.{GoodLine}
-use Rattle.layout.proofs.ReadLaws.{read-next, read-end}
 use Rattle.layout.proofs.PartLaws.{partNames, GoodEntry, GoodParts, line-good, line-names}
 
 -- where the reader is
@@ -62,7 +63,7 @@ entry-right k n t e g new =
 entry-next : (k n m : ℕ) (t : Typed) (e : Entry) (ls : List Line) → GoodEntry e → (eqb k 2 ≡ true → known (e .name) (namesOf (t .rooms)) ≡ false) → readFrom m (at k (suc n) t) (entryLine e ∷ ls) ≡ readFrom (suc m) (at k n (withEntry k t (entryLine e))) ls
 entry-next k n m t e ls g new =
     let z : suc n - 1 ≡ n = omega arith in
-    read-next m (at k (suc n) t) (entryLine e) ls (no-fault (entry-right k (suc n) t e g new))
+    read-next layoutGrammar m (at k (suc n) t) (entryLine e) ls (no-fault (entry-right k (suc n) t e g new))
     ∙ ap (λ (st : State). readFrom (suc m) st ls) (moved ∙ ap (λ (j : ℕ). at k j (withEntry k t (entryLine e))) z)
   where
     some : ltb 0 (suc n) ≡ true
@@ -112,7 +113,7 @@ module _ (sect k : ℕ) (key : Word) (o : opens sect key ≡ k) where
   counted-next m n t ls s w r =
       let two : 2 ≤ k = leb-true 2 k (and-true (leb 2 k) (leb k 5) w .0) in
       let some : eqb k 0 ≡ false = ne-eqb k 0 (λ z. omega arith) in
-      read-next n (at sect 0 t) (key ∷ plain m ∷ []) ls (rw (o, some, w, r)) ∙ rw (o, plain-value m s)
+      read-next layoutGrammar n (at sect 0 t) (key ∷ plain m ∷ []) ls (rw (o, some, w, r)) ∙ rw (o, plain-value m s)
 
   -- a section of k with its entries
   section-read : (es : List Entry) (n : ℕ) (t : Typed) (ls : List Line) → length es ≤ 64 → within 2 5 k ≡ true → countRight k (plain (length es)) ≡ true → Each GoodEntry es → Fresh k t [] es → readFrom n (at sect 0 t) (section key es ++ ls) ≡ readFrom (suc (n + length es)) (at k 0 (withEntries k t (map entryLine es))) ls
@@ -160,12 +161,12 @@ open-last = refl
 
 first-line : (ls : List Line) → readFrom 0 start ((beginlayout ∷ []) ∷ ls) ≡ readFrom 1 (at 1 0 nothing) ls
 unfolding fault next openFault wordsOf value
-first-line ls = read-next 0 start (beginlayout ∷ []) ls (rw open-first) ∙ rw open-first
+first-line ls = read-next layoutGrammar 0 start (beginlayout ∷ []) ls (rw open-first) ∙ rw open-first
 
 last-line : (n : ℕ) (t : Typed) → readFrom n (at 5 0 t) ((donelayout ∷ []) ∷ []) ≡ record { verdict = accepted; typed = t }
 unfolding fault next openFault wordsOf value finish
-last-line n t = read-next n (at 5 0 t) (donelayout ∷ []) [] (rw open-last)
-    ∙ ap (λ (k : ℕ). readFrom (suc n) (at k 0 t) []) open-last ∙ read-end (suc n) (at 6 0 t)
+last-line n t = read-next layoutGrammar n (at 5 0 t) (donelayout ∷ []) [] (rw open-last)
+    ∙ ap (λ (k : ℕ). readFrom (suc n) (at k 0 t) []) open-last ∙ read-end layoutGrammar (suc n) (at 6 0 t)
 
 -- the entries of a form as they are written
 unfoldable pub formTyped : LayoutParts → Typed

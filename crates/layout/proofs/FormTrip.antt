@@ -16,7 +16,8 @@ use Rattle.text.specs.Name.{isName}
 use Rattle.text.specs.Number.{plain}
 use Rattle.text.proofs.WrittenLaws.{AllPlain, AllLines, Plain, written-read, written-sound}
 use Rattle.text.proofs.WordLaws.{name-plain, count-plain}
-use Rattle.layout.specs.Grammar.{Word, Line, Typed, Reading, start, readFrom, beginlayout, roomcount, trackcount, obstaclecount, doorhookcount, donelayout}
+use Rattle.text.specs.Reading.{Word, Line}
+use Rattle.layout.specs.Grammar.{Typed, Reading, start, readFrom, beginlayout, roomcount, trackcount, obstaclecount, doorhookcount, donelayout}
 use Rattle.layout.specs.Layout.{grammar, layoutVerdict, layoutOf, Entry, LayoutParts, partsOfTyped, partsOf, sixedParts, sixedEntry, entryLine, section, form, formText}
 use Rattle.layout.specs.Rewrite.{rule40}
 use Rattle.layout.proofs.EachLaws.{Each}

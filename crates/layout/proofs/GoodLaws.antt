@@ -16,7 +16,8 @@ use Rattle.text.specs.Name.{isName}
 use Rattle.text.specs.Count.{value, isCount}
 use Rattle.text.specs.Number.{numberOf}
 use Rattle.text.proofs.CountLaws.{count-within}
-use Rattle.layout.specs.Grammar.{Word, Line, nth, Typed, nothing, State, start, Reading, stopped, sectionOf, follows, opens, withEntry, namesOf, known, placed, entryFault, wordsOf, countRight, openFault, fault, next, finish, readFrom}
+use Rattle.text.specs.Reading.{Word, Line, nth}
+use Rattle.layout.specs.Grammar.{Typed, nothing, State, start, Reading, stopped, sectionOf, follows, opens, withEntry, namesOf, known, placed, entryFault, wordsOf, countRight, openFault, fault, next, finish, readFrom}
 use Rattle.layout.proofs.EachLaws.{Each, each-more, Apart, apart-none, apart-more, names-more}
 
 -- ---- the first fault is none

@@ -20,7 +20,8 @@ use Rattle.text.specs.Scan.{words, lineAt}
 use Rattle.text.specs.Name.{isName, sameName}
 use Rattle.text.specs.Count.{value, isCount}
 use Rattle.layout.specs.declared.Progress.{Progress}
-use Rattle.layout.specs.Grammar.{Word, Line, nth, namesOf, known, opens}
+use Rattle.text.specs.Reading.{Word, Line, nth}
+use Rattle.layout.specs.Grammar.{namesOf, known, opens}
 use Rattle.layout.specs.Rewrite.{knownBut}
 use Rattle.layout.specs.Starts.{entryAt, held, Named, countIn, entered, movedTo, slotOf, kept}
 use Rattle.layout.proofs.EachLaws.{Each, each-at, length-names, names-at}

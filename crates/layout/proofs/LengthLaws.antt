@@ -9,7 +9,8 @@ use Rattle.text.specs.Number.{printed, plain, sixed}
 use Rattle.text.specs.Written.{after, spaced, written}
 use Rattle.text.proofs.DigitLaws.{plain-short, printed-short}
 use Rattle.text.proofs.NameLaws.{name-long}
-use Rattle.layout.specs.Grammar.{Word, Line, beginlayout, roomcount, trackcount, obstaclecount, doorhookcount, donelayout}
+use Rattle.text.specs.Reading.{Word, Line}
+use Rattle.layout.specs.Grammar.{beginlayout, roomcount, trackcount, obstaclecount, doorhookcount, donelayout}
 use Rattle.layout.specs.Layout.{Entry, LayoutParts, entryLine, section, form, formText}
 use Rattle.layout.proofs.EachLaws.{Each}
 use Rattle.layout.proofs.PartLaws.{GoodEntry, GoodParts}

@@ -13,7 +13,8 @@ use Rattle.text.specs.Class.{within}
 use Rattle.text.specs.Name.{same, isName}
 use Rattle.text.specs.Count.{value, isCount}
 use Rattle.text.specs.Number.{numberOf}
-use Rattle.layout.specs.Grammar.{Word, Line, nth, State, sectionOf, follows, opens, placed, wordsOf, countRight, openFault, entryFault, fault, namesOf, known, beginlayout, roomcount, trackcount, obstaclecount, doorhookcount, donelayout}
+use Rattle.text.specs.Reading.{Word, Line, nth}
+use Rattle.layout.specs.Grammar.{State, sectionOf, follows, opens, placed, wordsOf, countRight, openFault, entryFault, fault, namesOf, known, beginlayout, roomcount, trackcount, obstaclecount, doorhookcount, donelayout}
 use Rattle.layout.specs.Starts.{countIn}
 
 -- ---- keywords

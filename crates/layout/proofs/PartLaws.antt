@@ -13,7 +13,8 @@ use Rattle.text.proofs.NameLaws.{name-lowered, lowered-again, same-name-lowered
 use Rattle.text.proofs.NumberTrip.{read-said, sixed-read, sixed-again}
 use Rattle.text.proofs.WrittenLaws.{AllPlain}
 use Rattle.text.proofs.WordLaws.{name-plain, number-plain}
-use Rattle.layout.specs.Grammar.{Word, Line, nth, Typed, namesOf}
+use Rattle.text.specs.Reading.{Word, Line, nth}
+use Rattle.layout.specs.Grammar.{Typed, namesOf}
 use Rattle.layout.specs.Layout.{layoutOf, Entry, LayoutParts, entryOf, partsOfTyped, partsOf, sixedEntry, sixedParts, entryLine}
 use Rattle.layout.proofs.EachLaws.{Each, each-map, Apart, length-names}
 use Rattle.layout.proofs.GoodLaws.{GoodLine}

@@ -20,7 +20,7 @@ use Rattle.text.specs.Write.{Wrote}
 use Rattle.text.specs.Written.{after, spaced, written}
 use Rattle.text.proofs.NameLaws.{name-long, length-lowered}
 use Rattle.text.proofs.WriteLaws.{wrote-none, wrote-then}
-use Rattle.layout.specs.Grammar.{Word, Line, nth}
+use Rattle.text.specs.Reading.{Word, Line, nth}
 use Rattle.layout.specs.Layout.{Entry, entryOf, entryLine, section}
 use Rattle.layout.specs.Rewrite.{entryNamed, renamedAt}
 use Rattle.layout.specs.Starts.{entryAt, held, NamedFrom}

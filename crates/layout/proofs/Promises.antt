@@ -16,7 +16,8 @@ use Rattle.verdict.proofs.Output.{form-refused}
 use Rattle.text.specs.Class.{nameByte, isGap, isEnd}
 use Rattle.text.specs.Name.{isName}
 use Rattle.text.proofs.NameLaws.{name-clean}
-use Rattle.layout.specs.Grammar.{Word, nth, namesOf}
+use Rattle.text.specs.Reading.{Word, nth}
+use Rattle.layout.specs.Grammar.{namesOf}
 use Rattle.layout.specs.Layout.{layoutOf, partsOf, formText}
 use Rattle.layout.specs.Rewrite.{renamedForm, roomNames, rewriteVerdict, renameVerdict}
 use Rattle.layout.specs.Caption.{hasRoom, roomName, captionOf, captionNumber}

@@ -11,24 +11,13 @@ use borrow.Author.Tests.{eqb-true, eqb-false, eq-eqb, ne-eqb}
 use Rattle.verdict.specs.Verdict.{accepted, _then_}
 use Rattle.verdict.proofs.Bools.{clash, test}
 use Rattle.verdict.proofs.Verdict.{passed, then-next, then-stop, Proper, then-proper, rule-proper, each-proper}
+use Rattle.text.proofs.ReadingLaws.{read-next, read-stop, read-end}
 use Rattle.text.specs.Sound.{rules31to32, rule31, rule32}
-use Rattle.layout.specs.Grammar.{Word, Line, nth, Typed, nothing, State, start, Reading, stopped, namesOf, fault, next, finish, readFrom}
+use Rattle.text.specs.Reading.{Word, Line, nth}
+use Rattle.layout.specs.Grammar.{Typed, nothing, State, start, Reading, stopped, namesOf, fault, next, finish, layoutGrammar, readFrom}
 use Rattle.layout.specs.Layout.{grammar, layoutVerdict, layoutOf}
 use Rattle.layout.proofs.EachLaws.{Each, Apart, apart-none}
 use Rattle.layout.proofs.GoodLaws.{GoodLine, Good, good-start, good-next}
-
--- a line with no fault, one with a fault, and no line
-pub read-next : (n : ℕ) (st : State) (l : Line) (ls : List Line) → fault st l ≡ 0 → readFrom n st (l ∷ ls) ≡ readFrom (suc n) (next st l) ls
-unfolding readFrom
-read-next n st l ls e = rw (eq-eqb (fault st l) 0 e)
-
-pub read-stop : (n : ℕ) (st : State) (l : Line) (ls : List Line) → (fault st l ≡ 0 → ⊥) → readFrom n st (l ∷ ls) ≡ stopped (fault st l) (suc n)
-unfolding readFrom
-read-stop n st l ls e = rw (ne-eqb (fault st l) 0 e)
-
-pub read-end : (n : ℕ) (st : State) → readFrom n st [] ≡ finish st n
-unfolding readFrom finish
-read-end n st = refl
 
 -- ---- what was read
 
@@ -68,13 +57,13 @@ pub read-sane : (ls : List Line) (n : ℕ) (st : State) → Good st → Sane (re
 unfolding finish
 read-sane [] n st g =
     test (eqb (st .sect) 6)
-    (λ (h : eqb (st .sect) 6 ≡ true). rw (read-end n st, h) (record { typed = good-typed st g; at-0 = λ z. refl; none = λ z. absurd (z refl) }))
-    (λ (h : eqb (st .sect) 6 ≡ false). rw (read-end n st, h) (sane-stopped 38 n (λ z. omega arith)))
+    (λ (h : eqb (st .sect) 6 ≡ true). rw (read-end layoutGrammar n st, h) (record { typed = good-typed st g; at-0 = λ z. refl; none = λ z. absurd (z refl) }))
+    (λ (h : eqb (st .sect) 6 ≡ false). rw (read-end layoutGrammar n st, h) (sane-stopped 38 n (λ z. omega arith)))
 read-sane (l ∷ ls) n st g =
     let rest : fault st l ≡ 0 → Sane (readFrom (suc n) (next st l) ls) = λ e. read-sane ls (suc n) (next st l) (good-next st l g e) in
     test (eqb (fault st l) 0)
-    (λ (h : eqb (fault st l) 0 ≡ true). let e = eqb-true (fault st l) 0 h in rw (read-next n st l ls e) (rest e))
-    (λ (h : eqb (fault st l) 0 ≡ false). let e = eqb-false (fault st l) 0 h in rw (read-stop n st l ls e) (sane-stopped (fault st l) (suc n) e))
+    (λ (h : eqb (fault st l) 0 ≡ true). let e = eqb-true (fault st l) 0 h in rw (read-next layoutGrammar n st l ls e) (rest e))
+    (λ (h : eqb (fault st l) 0 ≡ false). let e = eqb-false (fault st l) 0 h in rw (read-stop layoutGrammar n st l ls e) (sane-stopped (fault st l) (suc n) e))
 
 pub grammar-sane : (s : List ℕ) → Sane (grammar s)
 unfolding grammar

@@ -21,9 +21,10 @@ use Rattle.verdict.proofs.Lowest.{none-under, any-same}
 use Rattle.verdict.proofs.Verdict.{passed, unbroken}
 use Rattle.text.specs.Name.{isName, lowered, sameName}
 use Rattle.text.proofs.NameLaws.{name-lowered, lowered-again, same-name-lowered, same-name-sym}
-use Rattle.layout.specs.Grammar.{Word, Line, namesOf}
+use Rattle.text.specs.Reading.{Word, Line}
+use Rattle.layout.specs.Grammar.{namesOf}
 use Rattle.layout.specs.Layout.{layoutVerdict, layoutOf, Entry, LayoutParts, partsOf, partsOfTyped, entryOf, sixedParts, formText}
-use Rattle.layout.specs.Rewrite.{renamedAt, renamed, knownBut, roomNames, renameVerdict}
+use Rattle.layout.specs.Rewrite.{renamedAt, renamed, knownBut, roomNames, nameVerdict, renameVerdict}
 use Rattle.layout.proofs.EachLaws.{Each, Apart}
 use Rattle.layout.proofs.PartLaws.{partNames, GoodEntry, GoodParts, parts-good, names-lowered}
 use Rattle.layout.proofs.FormTrip.{good-accepted, good-again, sixed-form}
@@ -102,25 +103,29 @@ but-lowered names i w =
     (rw (map-at lowered [] [] names j l) (same-name-lowered w _ ∙ same-name-sym w _ ∙ same-name-lowered _ w ∙ same-name-sym _ w))))
 
 -- what a room's new name has to be
-pub record Renames (s : List ℕ) (i : ℕ) (w : Word) : Type 0 where
-  pub accepts : layoutVerdict s .number ≡ 0
+pub record Names (s : List ℕ) (i : ℕ) (w : Word) : Type 0 where
   pub within : ltb i (length (roomNames s)) ≡ true
   pub name : isName w ≡ true
   pub new : knownBut i w (roomNames s) ≡ false
+
+pub names : (s : List ℕ) (i : ℕ) (w : Word) → nameVerdict s i w .number ≡ 0 → Names s i w
+unfolding nameVerdict
+names s i w z =
+    let a = passed _ _ z in
+    let b = passed _ _ (a .0) in
+    record { within = not-false _ (unbroken 20 _ i (b .0)); name = not-false _ (unbroken 33 _ 0 (b .1)); new = unbroken 36 _ 0 (a .1) }
+
+-- a text that is rewritten with a name
+pub record Renames (s : List ℕ) (i : ℕ) (w : Word) : Type 0 where
+  pub accepts : layoutVerdict s .number ≡ 0
+  pub named : Names s i w
 
 pub renames : (s : List ℕ) (i : ℕ) (w : Word) (room : ℕ) → renameVerdict s i w room .number ≡ 0 → Renames s i w
 unfolding renameVerdict
 renames s i w room z =
     let a = passed _ _ z in
     let b = passed _ _ (a .0) in
-    let c = passed _ _ (b .0) in
-    let d = passed _ _ (c .0) in
-    record {
-      accepts = d .0;
-      within = not-false _ (unbroken 20 _ i (d .1));
-      name = not-false _ (unbroken 33 _ 0 (c .1));
-      new = unbroken 36 _ 0 (b .1);
-    }
+    record { accepts = b .0; named = names s i w (b .1) }
 
 pub names-of-parts : (s : List ℕ) → partNames (partsOf s .rooms) ≡ map lowered (roomNames s)
 unfolding partsOf partsOfTyped roomNames
@@ -145,11 +150,11 @@ renamed-good s i w n k =
 
 -- the renamed form's text is accepted ..
 pub rename-accepted : (s : List ℕ) (i : ℕ) (w : Word) (room : ℕ) → renameVerdict s i w room .number ≡ 0 → layoutVerdict (formText (renamed (partsOf s) i w)) ≡ accepted
-rename-accepted s i w room z = let r = renames s i w room z in good-accepted _ (renamed-good s i w (r .name) (r .new))
+rename-accepted s i w room z = let r = renames s i w room z in good-accepted _ (renamed-good s i w (r .named .name) (r .named .new))
 
 -- .. and read as the renamed parts, each number with six places ..
 pub rename-read : (s : List ℕ) (i : ℕ) (w : Word) (room : ℕ) → renameVerdict s i w room .number ≡ 0 → partsOf (formText (renamed (partsOf s) i w)) ≡ sixedParts (renamed (partsOf s) i w)
-rename-read s i w room z = let r = renames s i w room z in good-again _ (renamed-good s i w (r .name) (r .new))
+rename-read s i w room z = let r = renames s i w room z in good-again _ (renamed-good s i w (r .named .name) (r .named .new))
 
 -- .. and rewriting it again changes no byte
 pub rename-twice : (s : List ℕ) (i : ℕ) (w : Word) (room : ℕ) → renameVerdict s i w room .number ≡ 0 → formText (partsOf (formText (renamed (partsOf s) i w))) ≡ formText (renamed (partsOf s) i w)

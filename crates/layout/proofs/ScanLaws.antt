@@ -15,36 +15,21 @@ use Rattle.text.specs.Class.{isEnd}
 use Rattle.text.specs.Scan.{run, apart, words, lines, lineAt}
 use Rattle.text.specs.Sound.{rules31to32}
 use Rattle.text.specs.Written.{wordLines}
-use Rattle.text.proofs.SplitLaws.{line-step, line-none}
+use Rattle.text.proofs.ReadingLaws.{rest, scan-next, scan-stop}
 use Rattle.layout.specs.declared.Progress.{Progress}
 use Rattle.layout.specs.declared.Layout.{Layout}
-use Rattle.layout.specs.Grammar.{Line, Typed, nothing, State, start, Reading, stopped, namesOf, fault, next, finish, readFrom}
+use Rattle.text.specs.Reading.{Line}
+use Rattle.layout.specs.Grammar.{Typed, nothing, State, start, Reading, stopped, namesOf, fault, next, finish, layoutGrammar, readFrom}
 use Rattle.layout.specs.Layout.{grammar, layoutVerdict, layoutOf}
 use Rattle.layout.specs.Starts.{entryAt, held, stateOf, movedTo, slotOf, kept, Named, Held, Found, Answered}
 use Rattle.layout.proofs.GoodLaws.{Good, good-start, good-next}
 use Rattle.layout.proofs.HeldLaws.{rooms-named}
-use Rattle.layout.proofs.ReadLaws.{read-next, read-stop, read-end, verdict-unsound, verdict-sound, layout-sound, layout-refused}
+use Rattle.layout.proofs.ReadLaws.{verdict-unsound, verdict-sound, layout-sound, layout-refused}
 use Rattle.layout.proofs.StepLaws.{Fits, step}
-
--- the lines of words from a place on
-abbrev pub rest : List ℕ → ℕ → List Line
-rest s at = map words (lines (drop at s))
 
 pub scan-start : (s : List ℕ) → grammar s ≡ readFrom 0 start (rest s 0)
 unfolding grammar wordLines
 scan-start s = refl
-
-pub scan-next : (s : List ℕ) (n at e : ℕ) (st : State) → e ≡ at + run (apart isEnd) (drop at s) → at < length s → fault st (entryAt s at) ≡ 0 → readFrom n st (rest s at) ≡ readFrom (n + 1) (next st (entryAt s at)) (rest s (e + 1))
-scan-next s n at e st he h f =
-    rw (line-step s at e he h, add-one n) (read-next n st (entryAt s at) (map words (lines (drop (e + 1) s))) f)
-
-pub scan-stop : (s : List ℕ) (n at : ℕ) (st : State) → at < length s → (fault st (entryAt s at) ≡ 0 → ⊥) → readFrom n st (rest s at) ≡ stopped (fault st (entryAt s at)) (n + 1)
-scan-stop s n at st h f =
-    let e = at + run (apart isEnd) (drop at s) in
-    rw (line-step s at e refl h, add-one n) (read-stop n st (entryAt s at) (map words (lines (drop (e + 1) s))) f)
-
-pub scan-end : (s : List ℕ) (n at : ℕ) (st : State) → length s ≤ at → readFrom n st (rest s at) ≡ finish st n
-scan-end s n at st h = rw (line-none s at h) (read-end n st)
 
 pub finish-early : (st : State) (n : ℕ) → (st .sect ≡ 6 → ⊥) → finish st n ≡ stopped 38 n
 unfolding finish
@@ -127,13 +112,13 @@ not-done s starts c n e = n e
 
 module _ (s starts : List ℕ) (c : Progress) (n at f : ℕ) (sized : length starts ≡ 192) (fits : Fits c) (good : Good (stateOf s starts c)) (inv : grammar s ≡ readFrom n (stateOf s starts c) (rest s at)) (h : at < length s) (ef : f ≡ fault (stateOf s starts c) (entryAt s at)) where
   pub turn-stops : (r : Layout) → (f ≡ 0 → ⊥) → Refused r f (n + 1) → Found s r (grammar s)
-  turn-stops r z q = found-stopped s r (grammar s) f (n + 1) (inv ∙ scan-stop s n at (stateOf s starts c) h (λ y. z (ef ∙ y)) ∙ rw (← ef)) q
+  turn-stops r z q = found-stopped s r (grammar s) f (n + 1) (inv ∙ scan-stop layoutGrammar s n at (stateOf s starts c) h (λ y. z (ef ∙ y)) ∙ rw (← ef)) q
 
   pub turn-more : (more l : List ℕ) (d : Progress) (e : ℕ) → f ≡ 0 → more ≡ kept starts c at → l ≡ lineAt s at → d ≡ movedTo c (words l) → e ≡ at + run (apart isEnd) (drop at s) → Fits d × (Good (stateOf s more d) × ((grammar s ≡ readFrom (n + 1) (stateOf s more d) (rest s (e + 1))) × (length more ≡ 192)))
   turn-more more l d e z hm hl hd he =
       let y : fault (stateOf s starts c) (entryAt s at) ≡ 0 = sym ef ∙ z in
       let (same, fit) = step s starts c at sized fits good y in
-      rw (hd, hl, hm, same) (fit, (good-next (stateOf s starts c) (entryAt s at) good y, (inv ∙ scan-next s n at e (stateOf s starts c) he h y, kept-long starts c at ∙ sized)))
+      rw (hd, hl, hm, same) (fit, (good-next (stateOf s starts c) (entryAt s at) good y, (inv ∙ scan-next layoutGrammar s n at e (stateOf s starts c) he h y, kept-long starts c at ∙ sized)))
 
 pub started : (s starts : List ℕ) → grammar s ≡ readFrom 0 (stateOf s starts (record { sect = 0; left = 0; rooms = 0; tracks = 0; obstacles = 0 })) (rest s 0)
 started s starts = rw (start-state s starts) (scan-start s)

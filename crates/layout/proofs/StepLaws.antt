@@ -15,7 +15,8 @@ use Rattle.verdict.proofs.Bools.{test, decided}
 use Rattle.text.specs.Class.{within}
 use Rattle.text.specs.Count.{value, isCount}
 use Rattle.layout.specs.declared.Progress.{Progress}
-use Rattle.layout.specs.Grammar.{Word, Line, nth, State, withEntry, opens, wordsOf, openFault, fault, next}
+use Rattle.text.specs.Reading.{Word, Line, nth}
+use Rattle.layout.specs.Grammar.{State, withEntry, opens, wordsOf, openFault, fault, next}
 use Rattle.layout.specs.Starts.{entryAt, held, stateOf, countIn, entered, movedTo, slotOf, kept}
 use Rattle.layout.proofs.GoodLaws.{Good, open-words, open-count, count-right}
 use Rattle.layout.proofs.HeldLaws.{held-long, slot-room, slot-track, slot-obstacle}

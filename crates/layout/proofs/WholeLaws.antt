@@ -9,16 +9,18 @@ use lib.ListN.{length, getD, drop, length-map}
 use borrow.Author.Tests.{lt-ltb, le-ltb}
 use Rattle.verdict.specs.declared.Answer.{Answer}
 use Rattle.verdict.specs.declared.Form.{Form}
-use Rattle.verdict.specs.Verdict.{accepted, refused, rule}
+use Rattle.verdict.specs.Verdict.{accepted, refused, rule, _then_}
 use Rattle.verdict.specs.Output.{over, formAnswer, formMemory}
 use Rattle.verdict.proofs.Output.{form-refused, form-written}
+use Rattle.verdict.proofs.Verdict.{then-next, then-stop}
 use Rattle.text.specs.Name.{isName, lowered}
 use Rattle.text.specs.Number.{plain}
 use Rattle.text.specs.Write.{Wrote}
 use Rattle.text.specs.Written.{spaced, after, written}
 use Rattle.text.proofs.WriteLaws.{wrote-then, wrote-whole, dry-run}
 use Rattle.layout.specs.declared.Layout.{Layout}
-use Rattle.layout.specs.Grammar.{Word, Line, nth, beginlayout, roomcount, trackcount, obstaclecount, doorhookcount, donelayout}
+use Rattle.text.specs.Reading.{Word, Line, nth}
+use Rattle.layout.specs.Grammar.{beginlayout, roomcount, trackcount, obstaclecount, doorhookcount, donelayout}
 use Rattle.layout.specs.Layout.{layoutOf, Entry, LayoutParts, entryOf, partsOfTyped, partsOf, section, form, formText}
 use Rattle.layout.specs.Rewrite.{renamedAt, renamed, renamedForm, rule40}
 use Rattle.layout.specs.Starts.{entryAt, held, NamedFrom, Held}
@@ -108,13 +110,24 @@ Answers f new v text o = (f ≡ formAnswer v text) × (new ≡ formMemory v text
 pub refused-form : (v : Answer) (text o : List ℕ) (n p : ℕ) → v ≡ refused n p → (n ≡ 0 → ⊥) → Answers (record { number = n; place = p; length = 0 }) o v text o
 refused-form v text o n p e z = rw e (form-refused (refused n p) text o z)
 
+-- three verdicts, one after the other: the first that refuses is answered, and where two accept the third decides
+module _ (u v b : Answer) where
+  pub first-refuses : (text o : List ℕ) (n p : ℕ) → u ≡ refused n p → (n ≡ 0 → ⊥) → Answers (record { number = n; place = p; length = 0 }) o (u then v then b) text o
+  first-refuses text o n p e z = refused-form (u then v then b) text o n p (rw (e, then-stop (refused n p) z v) (then-stop (refused n p) z b)) z
+
+  pub second-refuses : (text o : List ℕ) (a : Answer) → u ≡ accepted → a ≡ v → (a .number ≡ 0 → ⊥) → Answers (record { number = a .number; place = a .place; length = 0 }) o (u then v then b) text o
+  second-refuses text o a e ea z = refused-form (u then v then b) text o _ _ (rw (e, ← ea, then-next accepted a refl) (then-stop a z b)) z
+
+  pub third-decides : (f : Form) (new text o : List ℕ) (a : Answer) → u ≡ accepted → a ≡ v → a .number ≡ 0 → Answers f new b text o → Answers f new (u then v then b) text o
+  third-decides f new text o a e ea z h = rw (e, ← ea, then-next accepted a refl, then-next a b z) h
+
 broken-40 : (text : List ℕ) (room : ℕ) → room < length text → rule40 text room ≡ refused 40 0
 unfolding rule40 rule
 broken-40 text room h = rw (lt-ltb room (length text) h)
 
-met-40 : (text : List ℕ) (room : ℕ) → length text ≤ room → length text ≤ 12000 → rule40 text room ≡ accepted
+met-40 : (text : List ℕ) (room : ℕ) → length text ≤ room → length text ≤ 65536 → rule40 text room ≡ accepted
 unfolding rule40 rule
-met-40 text room h k = rw (le-ltb room (length text) h, le-ltb 65536 (length text) (omega arith))
+met-40 text room h k = rw (le-ltb room (length text) h, le-ltb 65536 (length text) k)
 
 laid : {o new text : List ℕ} {m : ℕ} → Wrote o new 0 m text → length text ≤ length o → new ≡ over text o
 unfolding over
@@ -127,7 +140,7 @@ module _ (text o part : List ℕ) (n : ℕ) (w : Wrote [] part 0 n text) where
       let l : length o < n = rw z at h in
       rw z (refused-form (rule40 text (length o)) text o 40 0 (broken-40 text (length o) (omega (arith, w .next))) (λ y. omega arith))
 
-  pub long-enough : (new : List ℕ) (m : ℕ) → length text ≤ 12000 → n ≤ length (part ++ o) → Wrote (part ++ o) new 0 m text → Answers (record { number = 0; place = 0; length = m }) new (rule40 text (length o)) text o
+  pub long-enough : (new : List ℕ) (m : ℕ) → length text ≤ 65536 → n ≤ length (part ++ o) → Wrote (part ++ o) new 0 m text → Answers (record { number = 0; place = 0; length = m }) new (rule40 text (length o)) text o
   long-enough new m short h q =
       let z : part ≡ [] = dry-run w in
       let l : n ≤ length o = rw z at h in

@@ -4,7 +4,7 @@ use mathlib.Core.Bool.{Bool, cond, _||_}
 use mathlib.Core.List.{List, []}
 use lib.ListN.{length, getD}
 use lib.Dec.{ltb}
-use Rattle.layout.specs.Grammar.{Word}
+use Rattle.text.specs.Reading.{Word}
 use Rattle.layout.specs.Rewrite.{roomNames}
 
 -- the layout reads and has room i; a refused one has no rooms

@@ -12,16 +12,7 @@ use Rattle.text.specs.Class.{within}
 use Rattle.text.specs.Name.{same, isName, sameName}
 use Rattle.text.specs.Count.{value, isCount}
 use Rattle.text.specs.Number.{numberOf}
-
-abbrev pub Word : Type 0
-Word = List ℕ
-
-abbrev pub Line : Type 0
-Line = List Word
-
--- word k of a line
-abbrev pub nth : Line → ℕ → Word
-nth l k = getD l k []
+use Rattle.text.specs.Reading.{Word, Line, nth, Grammar, readLines}
 
 -- ---- keywords, in lower case
 
@@ -144,10 +135,9 @@ stopped number line = record { verdict = refused number line; typed = nothing }
 unfoldable pub finish : State → ℕ → Reading
 finish st n = cond (eqb (st .sect) 6) (record { verdict = accepted; typed = st .typed }) (stopped 38 n)
 
+abbrev pub layoutGrammar : Grammar State Reading
+layoutGrammar = record { fault = fault; next = next; finish = finish; stopped = stopped }
+
 -- the lines behind the first n: the lowest faulty line gets the first of its faults; lines count from 1
-unfoldable pub readFrom : ℕ → State → List Line → Reading
-unfolding finish
-readFrom n st [] = finish st n
-readFrom n st (l ∷ ls) =
-    let rest = readFrom (suc n) (next st l) ls in
-    cond (eqb (fault st l) 0) rest (stopped (fault st l) (suc n))
+abbrev pub readFrom : ℕ → State → List Line → Reading
+readFrom = readLines layoutGrammar

@@ -11,7 +11,8 @@ use Rattle.text.specs.Sound.{rules31to32}
 use Rattle.text.specs.Name.{lowered}
 use Rattle.text.specs.Number.{numberOf, printed, plain, sixed}
 use Rattle.text.specs.Written.{written, wordLines}
-use Rattle.layout.specs.Grammar.{Word, Line, nth, Typed, nothing, Reading, readFrom, start, beginlayout, roomcount, trackcount, obstaclecount, doorhookcount, donelayout}
+use Rattle.text.specs.Reading.{Word, Line, nth}
+use Rattle.layout.specs.Grammar.{Typed, nothing, Reading, readFrom, start, beginlayout, roomcount, trackcount, obstaclecount, doorhookcount, donelayout}
 
 -- what the grammar says of a text
 unfoldable pub grammar : List ℕ → Reading

@@ -10,7 +10,8 @@ use Rattle.verdict.specs.Verdict.{rule, _then_}
 use Rattle.text.specs.Name.{isName, lowered, sameName}
 use Rattle.text.specs.Number.{numberOf}
 use Rattle.layout.specs.declared.Rooms.{Rooms}
-use Rattle.layout.specs.Grammar.{Word, Line, nth, namesOf}
+use Rattle.text.specs.Reading.{Word, Line, nth}
+use Rattle.layout.specs.Grammar.{namesOf}
 use Rattle.layout.specs.Layout.{layoutVerdict, layoutOf, Entry, LayoutParts, partsOf, formText}
 
 -- the parts of an entry's line with another name
@@ -51,8 +52,11 @@ rule40 text room = rule 40 (ltb room (length text) || ltb 65536 (length text)) 0
 unfoldable pub rewriteVerdict : List ℕ → ℕ → Answer
 rewriteVerdict s room = layoutVerdict s then rule40 (formText (partsOf s)) room
 
--- the text's refusals, then with a name 21 (place the number), 34, 37 if another room has it (both place 0), then 40
+-- with a name 21 (place the number), 34, 37 if another room has it (both place 0)
+unfoldable pub nameVerdict : List ℕ → ℕ → Word → Answer
+nameVerdict s i w =
+    rule 21 (not (ltb i (length (roomNames s)))) i then rule 34 (not (isName w)) 0 then rule 37 (knownBut i w (roomNames s)) 0
+
+-- the text's refusals, then those of the name, then 40
 unfoldable pub renameVerdict : List ℕ → ℕ → Word → ℕ → Answer
-renameVerdict s i w room =
-    layoutVerdict s then rule 21 (not (ltb i (length (roomNames s)))) i then rule 34 (not (isName w)) 0
-    then rule 37 (knownBut i w (roomNames s)) 0 then rule40 (renamedForm s i w) room
+renameVerdict s i w room = layoutVerdict s then nameVerdict s i w then rule40 (renamedForm s i w) room

@@ -12,7 +12,8 @@ use Rattle.text.specs.Name.{isName}
 use Rattle.text.specs.Count.{value, isCount}
 use Rattle.layout.specs.declared.Progress.{Progress}
 use Rattle.layout.specs.declared.Layout.{Layout}
-use Rattle.layout.specs.Grammar.{Word, Line, nth, Typed, State, Reading, opens}
+use Rattle.text.specs.Reading.{Word, Line, nth}
+use Rattle.layout.specs.Grammar.{Typed, State, Reading, opens}
 use Rattle.layout.specs.Layout.{layoutVerdict, layoutOf}
 
 -- the line of words that starts at a place

@@ -4,6 +4,7 @@ use text::line_at;
 use text::line_end;
 use text::word;
 use text::word_count;
+use verdict::Answer;
 use verdict::Form;
 ghost use mathlib.Core.Path.{_≡_};
 ghost use mathlib.Core.Bool.{true, cond, not, _&&_};
@@ -17,9 +18,10 @@ ghost use Rattle.text.specs.Name.{isName, lowered, sameName};
 ghost use Rattle.text.specs.Number.{numberOf, printed, plain, sixed};
 ghost use Rattle.text.specs.Write.{Wrote};
 ghost use Rattle.text.specs.Written.{written};
-ghost use Rattle.layout.specs.Grammar.{Line, nth, sectionOf, follows, opens, placed, wordsOf, countRight, openFault, entryFault, fault, namesOf};
+ghost use Rattle.text.specs.Reading.{Line, nth};
+ghost use Rattle.layout.specs.Grammar.{sectionOf, follows, opens, placed, wordsOf, countRight, openFault, entryFault, fault, namesOf};
 ghost use Rattle.layout.specs.Layout.{grammar, layoutOf, partsOf, entryOf, entryLine, section, formText};
-ghost use Rattle.layout.specs.Rewrite.{entryNamed, renamedAt, renamedForm, knownBut, rule40, rewriteVerdict, renameVerdict, roomsOf};
+ghost use Rattle.layout.specs.Rewrite.{entryNamed, renamedAt, renamedForm, knownBut, rule40, rewriteVerdict, nameVerdict, renameVerdict, roomsOf};
 ghost use Rattle.layout.specs.Caption.{captionOf, captionNumber};
 ghost use Rattle.layout.specs.Starts.{entryAt, held, stateOf, countIn, entered, movedTo, slotOf, kept, Named, NamedFrom, keptName, Held, Found, Answered};
 
@@ -577,6 +579,29 @@ pub fn layout_rewrite(text: &[u8], out: &mut [u8]) -> Form
     write_form(out, text, r, 64, &text[..0])
 }
 
+// 21, 34 and 37: whether a room of a layout that was read may have a typed name.
+pub fn name_verdict(text: &[u8], r: Layout, room: u32, name: &[u8]) -> Answer
+    requires { ⌜ Answered (now text) r ⌝ }
+    ensures { λ a. ⌜ a ≡ nameVerdict (now (text .entry)) room (now (name .entry)) ⌝ }
+{
+    let i = room as usize;
+    let n = r.rooms;
+    if n <= i {
+        return Answer {
+            number: 21,
+            place: room,
+        };
+    }
+    if is_name(name) {
+        let starts = r.starts;
+        return verdict::first_rule(37, is_known(text, &starts, n, i, name), 0);
+    }
+    Answer {
+        number: 34,
+        place: 0,
+    }
+}
+
 // The same with another name for a room.
 pub fn layout_rename(text: &[u8], room: u32, name: &[u8], out: &mut [u8]) -> Form
     ensures answer { λ f. ⌜ f ≡ formAnswer (renameVerdict (now (text .entry)) room (now (name .entry)) (length (now (out .entry)))) (renamedForm (now (text .entry)) room (now (name .entry))) ⌝ }
@@ -590,31 +615,15 @@ pub fn layout_rename(text: &[u8], room: u32, name: &[u8], out: &mut [u8]) -> For
             length: 0,
         };
     }
-    let i = room as usize;
-    let n = r.rooms;
-    if n <= i {
+    let a = name_verdict(text, r, room, name);
+    if a.number != 0 {
         return Form {
-            number: 21,
-            place: room,
+            number: a.number,
+            place: a.place,
             length: 0,
         };
     }
-    if is_name(name) {
-        let starts = r.starts;
-        if is_known(text, &starts, n, i, name) {
-            return Form {
-                number: 37,
-                place: 0,
-                length: 0,
-            };
-        }
-        return write_form(out, text, r, i, name);
-    }
-    Form {
-        number: 34,
-        place: 0,
-        length: 0,
-    }
+    write_form(out, text, r, room as usize, name)
 }
 
 // The verdict of a layout, and how many rooms it has.

@@ -3,6 +3,7 @@ pub mod RunLaws
 pub mod NameLaws
 pub mod SoundLaws
 pub mod SplitLaws
+pub mod ReadingLaws
 pub mod DigitLaws
 pub mod NumberLaws
 pub mod DecimalLaws

@@ -1,6 +1,6 @@
 -- Names: what stands in one, lower case, and when two are the same. Assumes nothing.
 use mathlib.Core.Path.{_≡_, refl, sym, ap, _∙_}
-use mathlib.Core.Bool.{Bool, true, false, _&&_}
+use mathlib.Core.Bool.{Bool, true, false, _&&_, _||_}
 use mathlib.Core.List.{List, [], _∷_}
 use Prim.Native.Nat.{ℕ, zero, suc, _+_, _≤_, _<_}
 use native.Mathlib.Numerals.{add-one}
@@ -72,6 +72,15 @@ pub name-lower : (b : ℕ) → nameByte b ≡ true → nameByte (lower b) ≡ tr
 unfolding lower nameByte classOf
 name-lower b h = test (within 65 90 b) (λ e. rw (e, capital b e .0)) (λ e. rw e h)
 
+-- and back
+name-raised : (b : ℕ) → nameByte (lower b) ≡ true → nameByte b ≡ true
+unfolding lower nameByte classOf
+name-raised b h = test (within 65 90 b) (λ e. rw (e, or-yes (within 97 122 b))) (λ e. rw e at h)
+  where
+    or-yes : (t : Bool) → (t || true) ≡ true
+    or-yes true = refl
+    or-yes false = refl
+
 pub length-lowered : (w : List ℕ) → length (lowered w) ≡ length w
 unfolding lowered
 length-lowered w = length-map w lower
@@ -126,6 +135,13 @@ name-lowered w e =
     name-of (lowered w) (omega (arith, length-lowered w)) (omega (arith, length-lowered w))
     (λ i l. rw (lowered-at w i) (name-lower (getD w i 0) (name-clean w e i (omega (arith, length-lowered w)))))
 
+-- what is a name in lower case is a name
+pub lowered-name : (w : List ℕ) → isName (lowered w) ≡ true → isName w ≡ true
+lowered-name w e =
+    let h = name-long (lowered w) e in
+    name-of w (omega (arith, length-lowered w)) (omega (arith, length-lowered w))
+    (λ i l. name-raised (getD w i 0) (rw (← lowered-at w i) (name-clean (lowered w) e i (omega (arith, length-lowered w)))))
+
 -- ---- the same name
 
 pub same-name-lowered : (a b : List ℕ) → sameName (lowered a) b ≡ sameName a b
@@ -139,6 +155,10 @@ same-name-refl a = same-refl (lowered a)
 pub same-name-true : (a b : List ℕ) → sameName a b ≡ true → lowered a ≡ lowered b
 unfolding sameName
 same-name-true a b e = same-true (lowered a) (lowered b) e
+
+-- what is the same as a name is one
+pub same-name-name : (a b : List ℕ) → sameName a b ≡ true → isName b ≡ true → isName a ≡ true
+same-name-name a b e n = lowered-name a (rw (same-name-true a b e) (name-lowered b n))
 
 pub same-name-sym : (a b : List ℕ) → sameName a b ≡ sameName b a
 unfolding sameName

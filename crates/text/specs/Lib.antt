@@ -6,3 +6,4 @@ pub mod Count
 pub mod Number
 pub mod Write
 pub mod Written
+pub mod Reading

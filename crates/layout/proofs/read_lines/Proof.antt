@@ -5,13 +5,14 @@ use borrow.Author.Needs.{needs}
 use Prim.Native.Nat.{ℕ, _+_, _-_, _≤_, _<_}
 use lib.ListN.{length, drop}
 use Rattle.text.specs.Class.{isEnd}
+use Rattle.text.proofs.ReadingLaws.{rest, scan-end}
 use Rattle.text.proofs.SplitLaws.{piece-within}
-use Rattle.layout.specs.Grammar.{readFrom}
+use Rattle.layout.specs.Grammar.{layoutGrammar, readFrom}
 use Rattle.layout.specs.Layout.{grammar}
 use Rattle.layout.specs.Starts.{stateOf}
 use Rattle.layout.proofs.GoodLaws.{Good}
 use Rattle.layout.proofs.StepLaws.{Fits, slot-inside}
-use Rattle.layout.proofs.ScanLaws.{rest, started, named, done, not-done, scan-end, start-good, finish-early, finish-right, found-stopped, found-right, turn-stops, turn-more}
+use Rattle.layout.proofs.ScanLaws.{started, named, done, not-done, start-good, finish-early, finish-right, found-stopped, found-right, turn-stops, turn-more}
 use Rattle.layout.proofs.read_lines.Statement.{statement}
 use Rattle.layout.proofs.read_lines.Tie as tie
 
@@ -85,12 +86,12 @@ cast-refused-layout-2 c =
 returns-2 : tie.Need-returns-2 Inv-loop μ-loop
 returns-2 c =
     let z = c .before .before .before .before in
-    found-stopped _ _ _ _ _ (z .loop .inv .1 .1 .1 .1 .0 ∙ scan-end _ _ _ _ (c .before .before .before .loop-test .left) ∙ finish-early _ _ (not-done _ _ _ (c .before .if2 .taken))) (c .refused-layout2 .ensures)
+    found-stopped _ _ _ _ _ (z .loop .inv .1 .1 .1 .1 .0 ∙ scan-end layoutGrammar _ _ _ _ (c .before .before .before .loop-test .left) ∙ finish-early _ _ (not-done _ _ _ (c .before .if2 .taken))) (c .refused-layout2 .ensures)
 
 returns-3 : tie.Need-returns-3 Inv-loop μ-loop
 returns-3 c =
     let z = c .before .before .before in
-    found-right _ (z .loop .starts) (z .loop .st) _ _ (z .loop .inv .1 .1 .1 .1 .0 ∙ scan-end _ _ _ _ (c .before .before .loop-test .left) ∙ finish-right _ _ (done _ _ _ (c .if2 .left))) (z .loop .inv .0) refl refl refl refl refl refl
+    found-right _ (z .loop .starts) (z .loop .st) _ _ (z .loop .inv .1 .1 .1 .1 .0 ∙ scan-end layoutGrammar _ _ _ _ (c .before .before .loop-test .left) ∙ finish-right _ _ (done _ _ _ (c .if2 .left))) (z .loop .inv .0) refl refl refl refl refl refl
 
 pub read-lines-spec : {M : Type 1} → statement M
 read-lines-spec =

@@ -1,4 +1,5 @@
 -- `layout::write_form` meets its contract. Assumes nothing.
+use native.Mathlib.Omega.{arith}
 use Rattle.layout.proofs.WholeLaws.{too-short, long-enough}
 use borrow.Author.Needs.{needs}
 use Rattle.layout.proofs.write_form.Statement.{statement}
@@ -33,7 +34,7 @@ same-length-2 c = search needs
 returns-2 : tie.Need-returns-2
 returns-2 c =
     let g = c .before .before .before .before .before .before .before .before .before .before .before .before in
-    long-enough _ (g .args .out .now) _ _ (c .before .before .before .before .before .before .before .put-form .ensures) _ _ (g .pre .1) (c .before .before .before .before .if1 .left) (c .before .before .put-form2 .ensures)
+    long-enough _ (g .args .out .now) _ _ (c .before .before .before .before .before .before .before .put-form .ensures) _ _ (omega (arith, g .pre .1)) (c .before .before .before .before .if1 .left) (c .before .before .put-form2 .ensures)
 
 pub write-form-spec : {M : Type 1} → statement M
 write-form-spec =

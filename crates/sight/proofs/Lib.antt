@@ -1,0 +1,15 @@
+pub mod MarkLaws
+pub mod FaultLaws
+pub mod StepLaws
+pub mod RoomLaws
+pub mod FindLaws
+pub mod PrintLaws
+pub mod LowLaws
+pub mod RowsGood
+pub mod TurnLaws
+pub mod SightLaws
+pub mod AnswerLaws
+pub mod SightForm
+pub mod SightTrip
+pub mod ShownLaws
+pub mod Promises
