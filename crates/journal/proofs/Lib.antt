@@ -7,5 +7,6 @@ pub mod Demand
 pub mod Wishes
 pub mod Area
 pub mod Refused
+pub mod OneBack
 pub mod Editable
 pub mod AcceptedFloors

@@ -189,7 +189,7 @@ pub fn nudge(floor: &mut [u8], journal: &mut [u8], f: u32, k: u32, place: u32, s
     edit(floor, journal, f, k, 3, place, ok, bits)
 }
 
-// The record before the cursor is taken back.
+// The record before the cursor is taken back: a put-back of one record.
 pub fn undo(floor: &mut [u8], journal: &[u8], f: u32, k: u32) -> Session
     ensures { λ r. ⌜ left r (now (floor .exit)) (now (journal .entry))
         ≡ undoStep areaFloor (lent (now (floor .entry)) (now (journal .entry)) f k) ⌝ }
@@ -206,8 +206,9 @@ pub fn undo(floor: &mut [u8], journal: &[u8], f: u32, k: u32) -> Session
             k,
         };
     }
-    let r = record::flipped(record::get_record(journal, SIZE * (k as usize - 1)));
-    if words::turn(floor, r) {
+    let last = SIZE * (k as usize - 1);
+    let left = unwind_from(floor, &journal[last..], 1);
+    if left == 0 {
         return Session {
             number: 0,
             place: 0,

@@ -255,9 +255,9 @@ fn covers(bytes: &[u8], work: &mut [u8]) -> bool
 {
     let faces = face_count(bytes);
     verdict::clear(work);
-    let walked = mark_faces(bytes, work);
+    let apart = mark_faces(bytes, work);
     let full = look_and_clear(work, faces);
-    if walked { full } else { false }
+    if apart { full } else { false }
 }
 
 // 13: whether the nodes, hanging from node 0, are one tree.

@@ -26,13 +26,17 @@ right c = accepted-of _ _ (zero _ _ (c .before .before .before .before .read-ver
 form-length-requires : tie.Need-form-length-requires
 form-length-requires c κs = let a = right c in (a .header, a .long)
 
+-- 40 if the output is shorter than the form
+short : (c : tie.After-first-rule) → let a = c .before .before .before .before .before .before .before .before .before .before .before .args in c .first-rule .result ≡ rule 40 (ltb (length (now (a .out))) (c .before .form-length .result)) 0
+short c = c .first-rule .ensures
+
 returns-2 : tie.Need-returns-2
 unfolding rewriteVerdict fixedForm
 returns-2 c =
     let e = c .before .before in
     let so = e .before .before .before .before .read-verdict in
     let out = now (e .before .before .before .before .before .before .before .before .before .args .out) in
-    (goes-on _ _ (so .result) _ (so .ensures .0) (e .if1 .left) (c .first-rule .ensures ∙ ap (λ (n : ℕ). rule 40 (ltb (length out) n) 0) (c .before .form-length .ensures .0)), so .ensures .1)
+    (goes-on _ _ (so .result) _ (so .ensures .0) (e .if1 .left) (short c ∙ ap (λ (n : ℕ). rule 40 (ltb (length out) n) 0) (c .before .form-length .ensures .0)), so .ensures .1)
 
 pub rewrite-verdict-spec : {M : Type 1} → statement M
 rewrite-verdict-spec =

@@ -11,11 +11,15 @@ use Rattle.verdict.specs.declared.Answer.{Answer}
 use Rattle.verdict.proofs.Verdict.{passed, unbroken}
 use Rattle.journal.specs.Record.{size}
 use Rattle.journal.specs.Wish.{asked}
-use Rattle.journal.specs.Step.{lent, editVerdict, recordOf, edited, editStep}
+use Rattle.journal.specs.Step.{lent, full, editVerdict, recordOf, edited, editStep}
 use Rattle.journal.specs.Calls.{areaFloor}
 use Rattle.journal.proofs.Steps.{full-free, open-met, OpenMet, open-next, stops, does}
 use Rattle.journal.proofs.edit.Statement.{statement}
 use Rattle.journal.proofs.edit.Tie as tie
+
+-- 25 is asked of the cursor
+by-cursor : (c : tie.After-is-full) → let a = c .before .before .before .before .args in c .is-full .result ≡ full (length (now (a .journal))) (a .k)
+by-cursor c = c .is-full .ensures
 
 -- what the code has worked out is the verdict
 verdict-is : (c : tie.After-then-rule) → let a = c .before .before .before .before .before .args in
@@ -24,7 +28,7 @@ verdict-is c =
     let s = c .before .before .before .before .before in
     let a = s .args in
     c .then-rule .ensures
-    ∙ ap₂ (λ (x : Answer) (t : Bool). x then rule 25 t (a .place)) (c .before .before .first-rule .ensures) (c .before .is-full .ensures)
+    ∙ ap₂ (λ (x : Answer) (t : Bool). x then rule 25 t (a .place)) (c .before .before .first-rule .ensures) (by-cursor (c .before))
     ∙ sym (open-next areaFloor (asked (a .tag) (a .place) (a .ok) (a .new)) (lent (now (a .floor)) (now (a .journal)) (a .f) (a .k)) (s .pre))
 
 returns : tie.Need-returns

@@ -4,7 +4,7 @@ use mathlib.Core.Path.{_≡_, sym, ap, _∙_}
 use Prim.Native.Nat.{ℕ}
 use mathlib.Core.Bool.{Bool, not}
 use denote.Ref.{now}
-use lib.Dec.{ltb}
+use lib.Dec.{leb, ltb}
 use Rattle.verdict.specs.Verdict.{rule, _then_}
 use Rattle.verdict.specs.declared.Answer.{Answer}
 use Rattle.verdict.proofs.Verdict.{then-next, then-stop, passed}
@@ -25,11 +25,15 @@ accepts c = sym (ap (λ (a : Answer). a .number) (c .before .before .common-verd
 count-of-requires : tie.Need-count-of-requires
 count-of-requires c κs = passed _ _ (accepts c) .0
 
+-- 21 at the place asked for
+outside : (c : tie.After-first-rule) → let a = c .before .before .before .before .before .before .args in c .first-rule .result ≡ rule 21 (leb (c .before .count-of .result) (a .place)) (a .place)
+outside c = c .first-rule .ensures
+
 returns-2 : tie.Need-returns-2
 unfolding rule21
 returns-2 c =
     let a = c .before .before .before .before .before .before .args in
-    c .first-rule .ensures
+    outside c
     ∙ ap (λ (t : Bool). rule 21 t (a .place)) (leb-not (c .before .count-of .result) (a .place) ∙ ap (λ (n : ℕ). not (ltb (a .place) n)) (c .before .count-of .ensures))
     ∙ sym (then-next _ _ (accepts (c .before .before)))
 

@@ -1,14 +1,17 @@
--- By the common rules, the cursor and the record. Assumes nothing.
+-- By the common rules, the cursor and the one record that is taken back. Assumes nothing.
 use borrow.Author.Needs.{needs}
+use Prim.Native.Nat.{_-_, _*_}
 use native.Mathlib.Omega.{arith}
 use mathlib.Core.Path.{_≡_, sym, ap, _∙_}
+use lib.ListN.{length, take, drop, length-drop}
 use denote.Ref.{now}
 use borrow.Author.Tests.{eq-eqb, ne-eqb}
 use Rattle.verdict.specs.declared.Answer.{Answer}
-use Rattle.journal.specs.Record.{flip}
-use Rattle.journal.specs.Step.{lent, commonVerdict, undone, undoVerdict, undoStep}
+use Rattle.journal.specs.Record.{size}
+use Rattle.journal.specs.Step.{lent, commonVerdict, unwindsTo, unwind, undoVerdict, undoStep}
 use Rattle.journal.specs.Calls.{areaFloor}
 use Rattle.journal.proofs.Steps.{CommonMet, common-met, turn-stops, turn-none, turn-done, turn-unfit}
+use Rattle.journal.proofs.OneBack.{part-all, one-back, none-back}
 use Rattle.journal.proofs.undo.Statement.{statement}
 use Rattle.journal.proofs.undo.Tie as tie
 
@@ -31,31 +34,53 @@ returns-2 : tie.Need-returns-2
 unfolding undoStep undoVerdict
 returns-2 c = turn-none areaFloor _ _ _ _ (accepts (c .before)) (eq-eqb _ 0 (c .if2 .taken))
 
-get-record-requires : tie.Need-get-record-requires
-get-record-requires c κs = omega (arith, met (c .before) .good)
+sub-unwind-from : tie.Need-sub-unwind-from
+sub-unwind-from c = omega (arith, met (c .before .before) .good)
 
-turn-requires : tie.Need-turn-requires
-turn-requires c κs = met (c .before .before .before .before) .right
+part-unwind-from-start : tie.Need-part-unwind-from-start
+part-unwind-from-start c = omega (arith, met (c .before .before) .good)
 
--- the record that is laid on
-laid : (c : tie.After-flipped) → let a = c .before .before .before .before .before .before .before .before .before .args in c .flipped .result ≡ undone (lent (now (a .floor)) (now (a .journal)) (a .f) (a .k))
-laid c = c .flipped .ensures ∙ ap flip (c .before .get-record .ensures)
+-- the last record alone goes through the loop
+one : (c : tie.After-unwind-from) → let a = c .before .before .before .before .before .before .before .before .before .before .args in
+    unwindsTo (c .unwind-from .last .0) (c .unwind-from .result) ≡ unwind areaFloor (now (a .floor)) (take (length (now (a .journal)) - size * (a .k - 1)) (drop (size * (a .k - 1)) (now (a .journal)))) 1
+one c = c .unwind-from .ensures
+
+unwind-from-requires : tie.Need-unwind-from-requires
+unwind-from-requires c κs =
+    let m = met (c .before .before .before) in
+    let a = c .before .before .before .before .before .before .before .before .before .args in
+    (m .right, rw part-all (omega (arith, m .good, length-drop (size * (a .k - 1)) (now (a .journal)))))
 
 returns-3 : tie.Need-returns-3
 unfolding undoStep undoVerdict
 returns-3 c =
-    let h = rw (laid (c .before .before .before .before .before)) at (c .before .before .before .turn .ensures) in
-    let f = sym (h .0) ∙ c .if3 .taken in
-    rw (rw f at (h .1)) (turn-done areaFloor _ _ _ _ (accepts (c .before .before .before .before .before .before .before .before)) (ne-eqb _ 0 (c .before .before .before .before .before .before .before .if2 .left)) f)
+    let h = one-back areaFloor _ _ _ _ _ (one (c .before .before .before)) (c .if3 .taken) in
+    rw (h .1) (turn-done areaFloor _ _ _ _ (accepts (c .before .before .before .before .before .before .before)) (ne-eqb _ 0 (c .before .before .before .before .before .before .if2 .left)) (h .0))
 
 returns-4 : tie.Need-returns-4
 unfolding undoStep undoVerdict
 returns-4 c =
-    let h = rw (laid (c .before .before .before .before .before)) at (c .before .before .before .turn .ensures) in
-    let f = sym (h .0) ∙ c .if3 .left in
-    rw (rw f at (h .1)) (turn-unfit areaFloor _ _ _ _ (accepts (c .before .before .before .before .before .before .before .before)) (ne-eqb _ 0 (c .before .before .before .before .before .before .before .if2 .left)) f)
+    let h = none-back areaFloor _ _ _ _ _ (one (c .before .before .before)) (c .if3 .left) in
+    rw (h .1) (turn-unfit areaFloor _ _ _ _ (accepts (c .before .before .before .before .before .before .before)) (ne-eqb _ 0 (c .before .before .before .before .before .before .if2 .left)) (h .0))
 
 pub undo-spec : {M : Type 1} → statement M
 undo-spec =
     tie.close
-    (tie.spec (search needs) (search needs) (search needs) returns (search needs) returns-2 (search needs) (search needs) get-record-requires (search needs) turn-requires (search needs) (search needs) returns-3 (search needs) returns-4)
+    (tie.spec
+    (search needs)
+    (search needs)
+    (search needs)
+    returns
+    (search needs)
+    returns-2
+    (search needs)
+    (search needs)
+    sub-unwind-from
+    part-unwind-from-start
+    (search needs)
+    unwind-from-requires
+    (search needs)
+    (search needs)
+    returns-3
+    (search needs)
+    returns-4)

@@ -1,5 +1,9 @@
 -- `layout::write_form` meets its contract. Assumes nothing.
+use mathlib.Core.List.{_++_}
 use native.Mathlib.Omega.{arith}
+use denote.Ref.{now}
+use Rattle.text.specs.Write.{Wrote}
+use Rattle.layout.specs.Rewrite.{renamedForm}
 use Rattle.layout.proofs.WholeLaws.{too-short, long-enough}
 use borrow.Author.Needs.{needs}
 use Rattle.layout.proofs.write_form.Statement.{statement}
@@ -31,10 +35,15 @@ cast-t14 c = search needs
 same-length-2 : tie.Need-same-length-2
 same-length-2 c = search needs
 
+-- the form goes to the whole output, behind what the dry run left of its empty start
+written : (c : tie.After-put-form2) → let a = c .before .before .before .before .before .before .before .before .before .before .args in
+    Wrote (c .before .before .before .before .before .put-form .last .0 ++ now (a .out)) (c .put-form2 .last .0) 0 (c .put-form2 .result) (renamedForm (now (a .s)) (a .i) (now (a .name)))
+written c = c .put-form2 .ensures
+
 returns-2 : tie.Need-returns-2
 returns-2 c =
     let g = c .before .before .before .before .before .before .before .before .before .before .before .before in
-    long-enough _ (g .args .out .now) _ _ (c .before .before .before .before .before .before .before .put-form .ensures) _ _ (omega (arith, g .pre .1)) (c .before .before .before .before .if1 .left) (c .before .before .put-form2 .ensures)
+    long-enough _ (g .args .out .now) _ _ (c .before .before .before .before .before .before .before .put-form .ensures) _ _ (omega (arith, g .pre .1)) (c .before .before .before .before .if1 .left) (written (c .before .before))
 
 pub write-form-spec : {M : Type 1} → statement M
 write-form-spec =

@@ -37,7 +37,7 @@ memory : (c : tie.After-slice-known4) → c .before .before .covers .last .1 .0 
 memory c = twice (now (start c .args .work)) (c .before .before .before .before .before .before .spans .last .1 .0) _ (c .before .before .before .before .before .before .spans .ensures .1) (c .before .before .covers .ensures .1)
 
 returns-2 : tie.Need-returns-2
-returns-2 c = (both-first _ _ (c .if2 .taken) ∙ answer (c .before), memory (c .before))
+returns-2 c = (both-first (c .before .before .before .before .before .before .before .spans .result) _ (c .if2 .taken) ∙ answer (c .before), memory (c .before))
 
 returns-3 : tie.Need-returns-3
 returns-3 c = (both-none _ (c .before .before .before .covers .result) (c .if2 .left) ∙ answer (c .before), memory (c .before))
