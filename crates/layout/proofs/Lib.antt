@@ -14,5 +14,6 @@ pub mod ScanLaws
 pub mod PrintLaws
 pub mod WholeLaws
 pub mod AnswerLaws
+pub mod PlaceLaws
 pub mod Promises
 pub mod Examples

@@ -44,6 +44,7 @@ pub struct Sight {
 }
 
 // A room's row, and how many rooms it sees.
+#[repr(C)]
 pub struct Row {
     pub number: u32,
     pub place: u32,

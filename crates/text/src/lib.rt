@@ -387,7 +387,7 @@ pub fn sound_verdict(s: &[u8]) -> Answer
 // ---- words and lines
 
 // The end of the gap that starts at `at`.
-fn skip_gap(l: &[u8], at: usize) -> usize
+pub fn skip_gap(l: &[u8], at: usize) -> usize
     ensures { λ r. ⌜ r ≡ at + run isGap (drop at (now (l .entry))) ⌝ }
 {
     let mut i = at;

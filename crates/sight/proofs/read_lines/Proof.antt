@@ -99,10 +99,10 @@ refused-sight-requires-2 : tie.Need-refused-sight-requires-2 Inv-loop μ-loop
 refused-sight-requires-2 c κs = search needs
 
 returns-2 : tie.Need-returns-2 Inv-loop μ-loop
-returns-2 c = c .refused-sight2 .ensures ∙ ends-early _ _ _ _ _ _ (c .before .before .before .before .loop .inv .1 .1 .1 .1) (c .before .before .before .loop-test .left) (c .before .if2 .taken)
+returns-2 c = c .refused-sight2 .ensures ∙ ends-early _ _ _ _ _ _ (c .before .before .before .before .loop .inv .1 .1 .1 .1) (c .before .before .before .loop-test .left) (λ e. omega (arith, c .before .if2 .taken))
 
 returns-3 : tie.Need-returns-3 Inv-loop μ-loop
-returns-3 c = ends-right _ _ _ _ _ _ (c .before .before .before .loop .inv .1 .1 .1 .1) (c .before .before .loop-test .left) (c .if2 .left)
+returns-3 c = ends-right _ _ _ _ _ _ (c .before .before .before .loop .inv .1 .1 .1 .1) (c .before .before .loop-test .left) (omega (arith, c .if2 .left))
 
 pub read-lines-spec : {M : Type 1} → statement M
 read-lines-spec =

@@ -1,0 +1,26 @@
+-- `engine::wp_link` meets its contract. Assumes nothing.
+use mathlib.Core.Path.{_∙_}
+use Rattle.journal.specs.Wish.{linkWish}
+use Rattle.journal.specs.Step.{lent, editStep}
+use Rattle.journal.specs.Calls.{areaFloor}
+use borrow.Author.Needs.{needs}
+use Rattle.engine.proofs.Handed.{handed}
+use Rattle.engine.proofs.wp_link.Statement.{statement}
+use Rattle.engine.proofs.wp_link.Tie as tie
+
+link-requires : tie.Need-link-requires
+link-requires c κs = search needs
+
+same-length : tie.Need-same-length
+same-length c = search needs
+
+same-length-2 : tie.Need-same-length-2
+same-length-2 c = search needs
+
+returns : tie.Need-returns
+returns c =
+    let a = c .before .before .before .before .before .before .before .before .before in
+    c .before .before .before .before .link .ensures ∙ handed (λ z. editStep areaFloor (linkWish (a .args .entry) z) (lent (a .args .floor .now) (a .args .journal .now) (a .args .f) (a .args .k))) (a .args .transition) (a .fits .transition)
+
+pub wp-link-spec : {M : Type 1} → statement M
+wp-link-spec = tie.close (tie.spec link-requires same-length same-length-2 returns)
