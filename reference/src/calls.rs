@@ -75,44 +75,70 @@ mod engine {
 
     #[rustfmt::skip]
     extern "C" {
-        fn wp_read(bytes: Bytes, length: usize, work: Lent, room: usize) -> Floor;
-        fn wp_rewrite(bytes: Bytes, length: usize, work: Lent, room: usize, out: Lent, space: usize) -> Form;
-        fn wp_query(bytes: Bytes, length: usize, work: Lent, room: usize, x: i32, y: i32) -> Point;
-        fn wp_paint(floor: Lent, length: usize, journal: Lent, room: usize, f: u32, k: u32, face: u32, material: u32) -> Session;
-        fn wp_link(floor: Lent, length: usize, journal: Lent, room: usize, f: u32, k: u32, entry: u32, transition: i32) -> Session;
-        fn wp_nudge(floor: Lent, length: usize, journal: Lent, room: usize, f: u32, k: u32, place: u32, step: i32) -> Session;
-        fn wp_undo(floor: Lent, length: usize, journal: Lent, room: usize, f: u32, k: u32) -> Session;
-        fn wp_redo(floor: Lent, length: usize, journal: Lent, room: usize, f: u32, k: u32) -> Session;
-        fn wp_put_back(floor: Lent, length: usize, journal: Lent, room: usize, f: u32, k: u32) -> Session;
-        fn wp_layout_rewrite(text: Bytes, length: usize, out: Lent, space: usize) -> Form;
-        fn wp_layout_rename(text: Bytes, length: usize, room: u32, name: Bytes, letters: usize, out: Lent, space: usize) -> Form;
-        fn wp_sight_rewrite(layout: Bytes, length: usize, vis: Bytes, size: usize, out: Lent, space: usize) -> Form;
-        fn wp_sight_rename(layout: Bytes, length: usize, vis: Bytes, size: usize, room: u32, name: Bytes, letters: usize, out: Lent, space: usize) -> Form;
-        fn wp_sight_row(layout: Bytes, length: usize, vis: Bytes, size: usize, room: u32) -> Row;
-        fn wp_link_check(bytes: Bytes, length: usize, work: Lent, room: usize, layout: Bytes, size: usize) -> Answer;
-        fn wp_caption(visitor: Bytes, length: usize, house: Bytes, size: usize, room: u32) -> CaptionAt;
+        fn wp_read(bytes: Bytes, n: usize, work: Lent, m: usize) -> Floor;
+        fn wp_rewrite(bytes: Bytes, n: usize, work: Lent, m: usize, out: Lent, o: usize) -> Form;
+        fn wp_query(bytes: Bytes, n: usize, work: Lent, m: usize, x: i32, y: i32) -> Point;
+        fn wp_paint(floor: Lent, n: usize, journal: Lent, m: usize, f: u32, k: u32,
+            face: u32, material: u32) -> Session;
+        fn wp_link(floor: Lent, n: usize, journal: Lent, m: usize, f: u32, k: u32,
+            entry: u32, transition: i32) -> Session;
+        fn wp_nudge(floor: Lent, n: usize, journal: Lent, m: usize, f: u32, k: u32,
+            place: u32, step: i32) -> Session;
+        fn wp_undo(floor: Lent, n: usize, journal: Lent, m: usize, f: u32, k: u32) -> Session;
+        fn wp_redo(floor: Lent, n: usize, journal: Lent, m: usize, f: u32, k: u32) -> Session;
+        fn wp_put_back(floor: Lent, n: usize, journal: Lent, m: usize, f: u32, k: u32) -> Session;
+        fn wp_layout_rewrite(text: Bytes, n: usize, out: Lent, o: usize) -> Form;
+        fn wp_layout_rename(text: Bytes, n: usize, room: u32, name: Bytes, m: usize,
+            out: Lent, o: usize) -> Form;
+        fn wp_sight_rewrite(layout: Bytes, n: usize, vis: Bytes, m: usize, out: Lent, o: usize) -> Form;
+        fn wp_sight_rename(layout: Bytes, n: usize, vis: Bytes, m: usize, room: u32,
+            name: Bytes, l: usize, out: Lent, o: usize) -> Form;
+        fn wp_sight_row(layout: Bytes, n: usize, vis: Bytes, m: usize, room: u32) -> Row;
+        fn wp_link_check(bytes: Bytes, n: usize, work: Lent, m: usize, layout: Bytes, l: usize) -> Answer;
+        fn wp_caption(visitor: Bytes, n: usize, house: Bytes, m: usize, room: u32) -> CaptionAt;
     }
 
-    // Each pointer below comes with the length of the very slice it points to, and the borrows of
-    // one call share no byte: that is all the exported calls ask of their caller.
+    // SAFETY, for every call below: each pointer comes with the length of the very slice it points
+    // to, and the borrows of one call share no byte. That is all the exported calls ask for.
     #[rustfmt::skip]
     pub const ENGINE: Calls = Calls {
         name: "engine",
         read: |b, w| unsafe { wp_read(b.as_ptr(), b.len(), w.as_mut_ptr(), w.len()) },
-        rewrite: |b, w, o| unsafe { wp_rewrite(b.as_ptr(), b.len(), w.as_mut_ptr(), w.len(), o.as_mut_ptr(), o.len()) },
+        rewrite: |b, w, o| unsafe {
+            wp_rewrite(b.as_ptr(), b.len(), w.as_mut_ptr(), w.len(), o.as_mut_ptr(), o.len())
+        },
         query: |b, w, x, y| unsafe { wp_query(b.as_ptr(), b.len(), w.as_mut_ptr(), w.len(), x, y) },
-        paint: |b, j, f, k, place, to| unsafe { wp_paint(b.as_mut_ptr(), b.len(), j.as_mut_ptr(), j.len(), f, k, place, to) },
-        link: |b, j, f, k, place, to| unsafe { wp_link(b.as_mut_ptr(), b.len(), j.as_mut_ptr(), j.len(), f, k, place, to as i32) },
-        nudge: |b, j, f, k, place, by| unsafe { wp_nudge(b.as_mut_ptr(), b.len(), j.as_mut_ptr(), j.len(), f, k, place, by as i32) },
+        paint: |b, j, f, k, face, material| unsafe {
+            wp_paint(b.as_mut_ptr(), b.len(), j.as_mut_ptr(), j.len(), f, k, face, material)
+        },
+        link: |b, j, f, k, entry, to| unsafe {
+            wp_link(b.as_mut_ptr(), b.len(), j.as_mut_ptr(), j.len(), f, k, entry, to as i32)
+        },
+        nudge: |b, j, f, k, place, step| unsafe {
+            wp_nudge(b.as_mut_ptr(), b.len(), j.as_mut_ptr(), j.len(), f, k, place, step as i32)
+        },
         undo: |b, j, f, k| unsafe { wp_undo(b.as_mut_ptr(), b.len(), j.as_mut_ptr(), j.len(), f, k) },
         redo: |b, j, f, k| unsafe { wp_redo(b.as_mut_ptr(), b.len(), j.as_mut_ptr(), j.len(), f, k) },
-        put_back: |b, j, f, k| unsafe { wp_put_back(b.as_mut_ptr(), b.len(), j.as_mut_ptr(), j.len(), f, k) },
-        layout_rewrite: |t, o| unsafe { wp_layout_rewrite(t.as_ptr(), t.len(), o.as_mut_ptr(), o.len()) },
-        layout_rename: |t, room, n, o| unsafe { wp_layout_rename(t.as_ptr(), t.len(), room, n.as_ptr(), n.len(), o.as_mut_ptr(), o.len()) },
-        sight_rewrite: |t, v, o| unsafe { wp_sight_rewrite(t.as_ptr(), t.len(), v.as_ptr(), v.len(), o.as_mut_ptr(), o.len()) },
-        sight_rename: |t, v, room, n, o| unsafe { wp_sight_rename(t.as_ptr(), t.len(), v.as_ptr(), v.len(), room, n.as_ptr(), n.len(), o.as_mut_ptr(), o.len()) },
+        put_back: |b, j, f, k| unsafe {
+            wp_put_back(b.as_mut_ptr(), b.len(), j.as_mut_ptr(), j.len(), f, k)
+        },
+        layout_rewrite: |t, o| unsafe {
+            wp_layout_rewrite(t.as_ptr(), t.len(), o.as_mut_ptr(), o.len())
+        },
+        layout_rename: |t, room, n, o| unsafe {
+            wp_layout_rename(t.as_ptr(), t.len(), room, n.as_ptr(), n.len(), o.as_mut_ptr(), o.len())
+        },
+        sight_rewrite: |t, v, o| unsafe {
+            wp_sight_rewrite(t.as_ptr(), t.len(), v.as_ptr(), v.len(), o.as_mut_ptr(), o.len())
+        },
+        sight_rename: |t, v, room, n, o| unsafe {
+            wp_sight_rename(t.as_ptr(), t.len(), v.as_ptr(), v.len(), room,
+                n.as_ptr(), n.len(), o.as_mut_ptr(), o.len())
+        },
         sight_row: |t, v, room| unsafe { wp_sight_row(t.as_ptr(), t.len(), v.as_ptr(), v.len(), room) },
-        link_check: |b, w, t| unsafe { wp_link_check(b.as_ptr(), b.len(), w.as_mut_ptr(), w.len(), t.as_ptr(), t.len()) },
+        link_check: |b, w, t| unsafe {
+            wp_link_check(b.as_ptr(), b.len(), w.as_mut_ptr(), w.len(), t.as_ptr(), t.len())
+        },
         caption: |v, h, room| unsafe { wp_caption(v.as_ptr(), v.len(), h.as_ptr(), h.len(), room) },
     };
 }

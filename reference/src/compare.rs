@@ -3,8 +3,9 @@
 use crate::answer::Fields;
 use crate::calls::Calls;
 use crate::fault::{self, Fault};
-use crate::generate::cases::{case, Case};
+use crate::generate::cases::{case, Call, Case, Lent};
 use crate::generate::sessions::{Move, Play};
+use crate::journal::{LINK, PAINT};
 use std::collections::{BTreeMap, BTreeSet};
 
 /// One side of a comparison: its calls, and a fault planted while they run.
@@ -26,115 +27,94 @@ pub struct Done {
 pub const GUARD: usize = 37;
 const GUARD_BYTE: u8 = 0xA5;
 
-/// A slice inside a larger buffer.
-struct Lent {
-    name: &'static str,
-    buffer: Vec<u8>,
-}
-
-impl Lent {
-    fn new(name: &'static str, bytes: &[u8]) -> Lent {
-        let guard = [GUARD_BYTE; GUARD];
-        Lent {
-            name,
-            buffer: [&guard[..], bytes, &guard[..]].concat(),
-        }
-    }
-
-    fn slice(&mut self) -> &mut [u8] {
-        let end = self.buffer.len() - GUARD;
-        &mut self.buffer[GUARD..end]
+/// Runs a case on one side: one call, or the calls of a session.
+pub fn run(case: &Case, side: &Side) -> Vec<Done> {
+    match case {
+        Case::One { call, lent } => vec![run_call(*call, lent, side)],
+        Case::Session(play) => run_session(play, side),
     }
 }
 
-/// Runs one call over lent slices, with the side's fault planted meanwhile.
-fn done<const N: usize>(
-    side: &Side,
-    call: &'static str,
-    lent: [(&'static str, &[u8]); N],
-    run: impl FnOnce(&Calls, [&mut [u8]; N]) -> Fields,
-) -> Done {
-    let mut lent = lent.map(|(name, bytes)| Lent::new(name, bytes));
+/// Runs one call over slices that sit inside larger buffers, with the side's fault planted meanwhile.
+fn run_call(call: Call, lent: &[Lent], side: &Side) -> Done {
+    let guard = [GUARD_BYTE; GUARD];
+    let mut memory: Vec<(&'static str, Vec<u8>)> = lent
+        .iter()
+        .map(|(name, bytes)| (*name, [&guard, &bytes[..], &guard].concat()))
+        .collect();
+    let mut slices: Vec<&mut [u8]> = memory.iter_mut().map(|(_, b)| inside_mut(b)).collect();
     fault::plant(side.fault);
-    let fields = run(&side.calls, lent.each_mut().map(|lent| lent.slice()));
+    let (name, fields) = make(call, &side.calls, &mut slices);
     fault::plant(None);
     Done {
-        call,
+        call: name,
         fields,
-        memory: lent.map(|lent| (lent.name, lent.buffer)).to_vec(),
+        memory,
     }
 }
 
-/// Runs a case on one side: one call, or the calls of a session.
-#[rustfmt::skip]
-pub fn run(case: &Case, side: &Side) -> Vec<Done> {
-    let one = match case {
-        Case::Session(play) => return run_session(play, side),
-        Case::Read { floor, work } =>
-            done(side, "read", [("floor", floor), ("work", work)], |calls, [floor, work]|
-                (calls.read)(floor, work).fields()),
-        Case::Rewrite { floor, work, out } =>
-            done(side, "rewrite", [("floor", floor), ("work", work), ("out", out)], |calls, [floor, work, out]|
-                (calls.rewrite)(floor, work, out).fields()),
-        Case::Query { floor, work, x, y } =>
-            done(side, "query", [("floor", floor), ("work", work)], |calls, [floor, work]|
-                (calls.query)(floor, work, *x, *y).fields()),
-        Case::LinkCheck { floor, work, layout } =>
-            done(side, "link_check", [("floor", floor), ("work", work), ("layout", layout)], |calls, [floor, work, layout]|
-                (calls.link_check)(floor, work, layout).fields()),
-        texts => run_texts(texts, side),
-    };
-    vec![one]
+/// The lent slice between its guards.
+fn inside_mut(buffer: &mut [u8]) -> &mut [u8] {
+    let end = buffer.len() - GUARD;
+    &mut buffer[GUARD..end]
 }
 
+/// Makes the call and gives its name and the fields of its answer.
 #[rustfmt::skip]
-fn run_texts(case: &Case, side: &Side) -> Done {
-    match case {
-        Case::LayoutRewrite { text, out } =>
-            done(side, "layout_rewrite", [("text", text), ("out", out)], |calls, [text, out]|
-                (calls.layout_rewrite)(text, out).fields()),
-        Case::LayoutRename { text, room, name, out } =>
-            done(side, "layout_rename", [("text", text), ("name", name), ("out", out)], |calls, [text, name, out]|
-                (calls.layout_rename)(text, *room, name, out).fields()),
-        Case::SightRewrite { layout, vis, out } =>
-            done(side, "sight_rewrite", [("layout", layout), ("vis", vis), ("out", out)], |calls, [layout, vis, out]|
-                (calls.sight_rewrite)(layout, vis, out).fields()),
-        Case::SightRename { layout, vis, room, name, out } =>
-            done(side, "sight_rename", [("layout", layout), ("vis", vis), ("name", name), ("out", out)], |calls, [layout, vis, name, out]|
-                (calls.sight_rename)(layout, vis, *room, name, out).fields()),
-        Case::SightRow { layout, vis, room } =>
-            done(side, "sight_row", [("layout", layout), ("vis", vis)], |calls, [layout, vis]|
-                (calls.sight_row)(layout, vis, *room).fields()),
-        Case::Caption { visitor, house, room } =>
-            done(side, "caption", [("visitor", visitor), ("house", house)], |calls, [visitor, house]|
-                (calls.caption)(visitor, house, *room).fields()),
-        _ => unreachable!("run gives this function only cases about texts"),
+fn make(call: Call, calls: &Calls, lent: &mut [&mut [u8]]) -> (&'static str, Fields) {
+    match (call, lent) {
+        (Call::Read, [b, w]) => ("read", (calls.read)(b, w).fields()),
+        (Call::Rewrite, [b, w, out]) => ("rewrite", (calls.rewrite)(b, w, out).fields()),
+        (Call::Query { x, y }, [b, w]) => ("query", (calls.query)(b, w, x, y).fields()),
+        (Call::Edit { tag, f, k, place, to }, [floor, journal]) => {
+            let (name, edit) = match tag {
+                PAINT => ("paint", calls.paint),
+                LINK => ("link", calls.link),
+                _ => ("nudge", calls.nudge),
+            };
+            (name, edit(floor, journal, f, k, place, to).fields())
+        }
+        (Call::Undo { f, k }, [b, j]) => ("undo", (calls.undo)(b, j, f, k).fields()),
+        (Call::Redo { f, k }, [b, j]) => ("redo", (calls.redo)(b, j, f, k).fields()),
+        (Call::PutBack { f, k }, [b, j]) => ("put_back", (calls.put_back)(b, j, f, k).fields()),
+        (Call::LayoutRewrite, [text, out]) => ("layout_rewrite", (calls.layout_rewrite)(text, out).fields()),
+        (Call::LayoutRename { room }, [text, name, out]) =>
+            ("layout_rename", (calls.layout_rename)(text, room, name, out).fields()),
+        (Call::SightRewrite, [layout, vis, out]) =>
+            ("sight_rewrite", (calls.sight_rewrite)(layout, vis, out).fields()),
+        (Call::SightRename { room }, [layout, vis, name, out]) =>
+            ("sight_rename", (calls.sight_rename)(layout, vis, room, name, out).fields()),
+        (Call::SightRow { room }, [layout, vis]) => ("sight_row", (calls.sight_row)(layout, vis, room).fields()),
+        (Call::LinkCheck, [b, w, layout]) => ("link_check", (calls.link_check)(b, w, layout).fields()),
+        (Call::Caption { room }, [visitor, house]) => ("caption", (calls.caption)(visitor, house, room).fields()),
+        (call, lent) => unreachable!("{call:?} with {} slices", lent.len()),
     }
 }
 
-/// Runs a session: every move goes on with the floor, the journal, f and k that the last one left.
+/// Runs a session: every call goes on with the floor, the journal, f and k that the last one left.
 fn run_session(play: &Play, side: &Side) -> Vec<Done> {
-    let mut floor = play.floor.clone();
-    let mut journal = play.journal.clone();
+    let mut lent = vec![
+        ("floor", play.floor.clone()),
+        ("journal", play.journal.clone()),
+    ];
     let mut kept = (play.f, play.k);
     let mut handed_in = None;
     let mut all = Vec::new();
     for next in &play.moves {
+        let session = handed_in.unwrap_or(kept);
         match *next {
             Move::HandIn { f, k } => handed_in = Some((f, k)),
-            Move::SpoilFloor { at, by } => spoil(&mut floor, at, by),
-            Move::SpoilJournal { at, by } => spoil(&mut journal, at, by),
-            called => {
-                let session = handed_in.take().unwrap_or(kept);
-                let one = run_move(called, side, [&floor, &journal], session);
-                let [(_, first), (_, second)] = &one.memory[..] else {
-                    unreachable!("a move is lent a floor and a journal");
-                };
-                floor.copy_from_slice(&first[GUARD..first.len() - GUARD]);
-                journal.copy_from_slice(&second[GUARD..second.len() - GUARD]);
-                if session == kept || one.fields[0].1 == 0 {
+            Move::SpoilFloor { at, by } => spoil(&mut lent[0].1, at, by),
+            Move::SpoilJournal { at, by } => spoil(&mut lent[1].1, at, by),
+            Move::Call(call) => {
+                let mut one = run_call(call.with(session), &lent, side);
+                for ((_, bytes), (_, buffer)) in lent.iter_mut().zip(&mut one.memory) {
+                    bytes.copy_from_slice(inside_mut(buffer));
+                }
+                if handed_in.is_none() || one.fields[0].1 == 0 {
                     kept = (one.fields[2].1 as u32, one.fields[3].1 as u32);
                 }
+                handed_in = None;
                 all.push(one);
             }
         }
@@ -146,29 +126,6 @@ fn spoil(bytes: &mut [u8], at: usize, by: u8) {
     if let Some(byte) = bytes.get_mut(at) {
         *byte ^= by;
     }
-}
-
-#[rustfmt::skip]
-fn run_move(called: Move, side: &Side, [floor, journal]: [&[u8]; 2], (f, k): (u32, u32)) -> Done {
-    let name = match called {
-        Move::Paint { .. } => "paint",
-        Move::Link { .. } => "link",
-        Move::Nudge { .. } => "nudge",
-        Move::Undo => "undo",
-        Move::Redo => "redo",
-        _ => "put_back",
-    };
-    done(side, name, [("floor", floor), ("journal", journal)], |calls, [floor, journal]| {
-        let session = match called {
-            Move::Paint { face, material } => (calls.paint)(floor, journal, f, k, face, material),
-            Move::Link { entry, transition } => (calls.link)(floor, journal, f, k, entry, transition as u32),
-            Move::Nudge { place, step } => (calls.nudge)(floor, journal, f, k, place, step as u32),
-            Move::Undo => (calls.undo)(floor, journal, f, k),
-            Move::Redo => (calls.redo)(floor, journal, f, k),
-            _ => (calls.put_back)(floor, journal, f, k),
-        };
-        session.fields()
-    })
 }
 
 /// The differences between what two sides did in one case, in words.
@@ -249,22 +206,25 @@ impl Tally {
     }
 }
 
-/// Runs cases 0 to `cases` - 1 of a seed on both sides and tells each different one.
+/// Runs cases 0 to `cases` - 1 of a seed on both sides. Tells each before it starts, and then each
+/// that was different.
 pub fn compare(
     cases: u64,
     seed: u64,
     sides: [&Side; 2],
-    mut tell: impl FnMut(u64, Vec<String>),
+    starts: impl Fn(u64),
+    mut differs: impl FnMut(u64, Vec<String>),
 ) -> Tally {
     let mut tally = Tally::default();
     for number in 0..cases {
+        starts(number);
         let case = case(seed, number);
         let [one, other] = sides.map(|side| run(&case, side));
         tally.add(&one);
         tally.cases += 1;
         if one != other {
             tally.different += 1;
-            tell(number, differences(&one, &other));
+            differs(number, differences(&one, &other));
         }
     }
     tally

@@ -9,8 +9,8 @@ use reference::compare::{compare, Side};
 use reference::fault::FAULTS;
 use reference::floor;
 use reference::form;
-use reference::generate::cases::{case, Case};
-use reference::generate::floors::{any_wish, floor as make};
+use reference::generate::cases::{case, Call, Case};
+use reference::generate::floors::{any_wish, crowded, floor as make, large};
 use reference::generate::random::Random;
 use reference::generate::texts;
 use reference::{layout, sight};
@@ -58,9 +58,11 @@ fn generated_texts_are_accepted_and_their_forms_read_back() {
 
 #[test]
 fn a_large_floor_is_accepted() {
-    let model = reference::generate::floors::large(&mut Random::new(1), 64, 32);
-    let counts = read(&model.in_order());
+    let counts = read(&large(&mut Random::new(1), 64, 32).in_order());
     assert_eq!((counts.number, counts.faces), (0, 4_096));
+    let counts = read(&crowded(&mut Random::new(6), 4_096).in_order());
+    assert_eq!((counts.number, counts.faces), (0, 4_096));
+    assert_eq!(counts.edges, 3 * counts.walkable);
 }
 
 #[test]
@@ -69,9 +71,13 @@ fn every_refusal_occurs() {
         calls: OTHER,
         fault: None,
     };
-    let tally = compare(12_000, 2, [&HONEST, &there], |number, found| {
-        panic!("case {number}: {found:?}")
-    });
+    let tally = compare(
+        12_000,
+        2,
+        [&HONEST, &there],
+        |_| (),
+        |number, found| panic!("case {number}: {found:?}"),
+    );
     for number in 0..=42 {
         assert!(
             tally.answered(number) >= 20,
@@ -88,9 +94,15 @@ fn every_planted_fault_is_noticed() {
             calls: REFERENCE,
             fault: Some(fault),
         };
-        let tally = compare(6_000, 3, [&planted, &HONEST], |_, found| {
-            assert!(!found.is_empty());
-        });
+        let tally = compare(
+            6_000,
+            3,
+            [&planted, &HONEST],
+            |_| (),
+            |_, found| {
+                assert!(!found.is_empty());
+            },
+        );
         assert!(tally.different > 0, "{name} was not noticed");
     }
 }
@@ -107,9 +119,16 @@ fn a_case_is_the_same_each_time() {
 fn outputs_of_the_exact_size_and_one_less_occur() {
     let (mut exact, mut less) = (0, 0);
     for number in 0..2_000 {
-        if let Case::Rewrite { floor, out, .. } = case(4, number) {
+        if let Case::One {
+            call: Call::Rewrite,
+            lent,
+        } = case(4, number)
+        {
+            let [(_, floor), _, (_, out)] = &lent[..] else {
+                panic!("a rewrite is lent three slices");
+            };
             let mut space = vec![0; 1_000_000];
-            let wanted = form::rewrite(&floor, &mut vec![0; floor::WORK], &mut space).length;
+            let wanted = form::rewrite(floor, &mut vec![0; floor::WORK], &mut space).length;
             exact += usize::from(wanted as usize == out.len());
             less += usize::from(wanted as usize == out.len() + 1);
         }

@@ -1,10 +1,11 @@
 //! compare N SEED: runs N cases on this implementation and the other side and compares all they did.
-//! compare --case I SEED: runs one of them again and shows it. --fault NAME plants a fault here.
+//! compare --case I SEED: runs one of them again and shows it. --fault NAME plants a fault here;
+//! --trace names each case on standard error before it runs, in case a call never returns.
 
 use reference::calls::{OTHER, REFERENCE};
-use reference::compare::{compare, differences, run, Done, Side, GUARD};
+use reference::compare::{compare, differences, run, Done, Side};
 use reference::fault::{self, Fault, FAULTS};
-use reference::generate::cases::case;
+use reference::generate::cases::{case, Case};
 use std::process::ExitCode;
 
 /// No more different cases than this are shown.
@@ -16,12 +17,13 @@ struct Asked {
     number: u64,
     seed: u64,
     fault: Option<Fault>,
+    trace: bool,
 }
 
 fn main() -> ExitCode {
     let Some(asked) = asked() else {
         let names: Vec<&str> = FAULTS.iter().map(|(name, _)| *name).collect();
-        eprintln!("compare N SEED [--fault NAME]");
+        eprintln!("compare N SEED [--fault NAME] [--trace]");
         eprintln!("compare --case I SEED [--fault NAME]");
         eprintln!("faults: {}", names.join(", "));
         return ExitCode::from(2);
@@ -47,12 +49,14 @@ fn asked() -> Option<Asked> {
         number: 0,
         seed: 0,
         fault: None,
+        trace: false,
     };
     let mut numbers = Vec::new();
     let mut words = std::env::args().skip(1);
     while let Some(word) = words.next() {
         match word.as_str() {
             "--case" => asked.one_case = true,
+            "--trace" => asked.trace = true,
             "--fault" => asked.fault = Some(fault::named(&words.next()?)?),
             number => numbers.push(number.parse().ok()?),
         }
@@ -66,7 +70,12 @@ fn run_all(asked: &Asked, sides: [&Side; 2]) -> bool {
     let names = sides.map(|side| side.calls.name);
     println!("{} against {}, seed {}\n", names[0], names[1], asked.seed);
     let mut shown = 0;
-    let tally = compare(asked.number, asked.seed, sides, |number, found| {
+    let starts = |number| {
+        if asked.trace {
+            eprintln!("case {number}");
+        }
+    };
+    let tally = compare(asked.number, asked.seed, sides, starts, |number, found| {
         shown += 1;
         if shown <= SHOWN {
             println!("case {number} of seed {}:", asked.seed);
@@ -85,14 +94,11 @@ fn run_all(asked: &Asked, sides: [&Side; 2]) -> bool {
 /// Runs one case and shows what was handed in and what both sides did; true if they differ.
 fn show(asked: &Asked, sides: [&Side; 2]) -> bool {
     let case = case(asked.seed, asked.number);
-    println!("{case:?}\n");
+    handed_in(&case);
     let [one, other] = sides.map(|side| run(&case, side));
     for (left, right) in one.iter().zip(&other) {
         println!("{:<15}{} {}", left.call, sides[0].calls.name, fields(left));
         println!("{:<15}{} {}", "", sides[1].calls.name, fields(right));
-        for (name, buffer) in &left.memory {
-            println!("{:<15}{name}: {} bytes", "", buffer.len() - 2 * GUARD);
-        }
     }
     let found = differences(&one, &other);
     println!("\n{} differences", found.len());
@@ -100,6 +106,26 @@ fn show(asked: &Asked, sides: [&Side; 2]) -> bool {
         println!("  {difference}");
     }
     !found.is_empty()
+}
+
+/// Shows all that a case hands in, bytes that are no plain letters as \x and two digits.
+fn handed_in(case: &Case) {
+    let bytes = |name: &str, bytes: &[u8]| {
+        println!("{name}, {} bytes: {}", bytes.len(), bytes.escape_ascii());
+    };
+    match case {
+        Case::One { call, lent } => {
+            println!("{call:?}");
+            lent.iter().for_each(|(name, slice)| bytes(name, slice));
+        }
+        Case::Session(play) => {
+            bytes("floor", &play.floor);
+            bytes("journal", &play.journal);
+            println!("f {}, k {}", play.f, play.k);
+            play.moves.iter().for_each(|next| println!("{next:?}"));
+        }
+    }
+    println!();
 }
 
 fn fields(done: &Done) -> String {

@@ -7,21 +7,55 @@ use super::{damage, floors, queries, text_damage};
 use crate::floor::WORK;
 use crate::{form, layout, sight};
 
-/// A call and its arguments.
-#[derive(Clone, Debug)]
+/// A call and its numbers. What an edit writes is handed over as 32 bits.
+#[derive(Clone, Copy, Debug)]
 #[rustfmt::skip]
+pub enum Call {
+    Read,
+    Rewrite,
+    Query { x: i32, y: i32 },
+    Edit { tag: u8, f: u32, k: u32, place: u32, to: u32 },
+    Undo { f: u32, k: u32 },
+    Redo { f: u32, k: u32 },
+    PutBack { f: u32, k: u32 },
+    LayoutRewrite,
+    LayoutRename { room: u32 },
+    SightRewrite,
+    SightRename { room: u32 },
+    SightRow { room: u32 },
+    LinkCheck,
+    Caption { room: u32 },
+}
+
+impl Call {
+    /// The same journal call with these f and k handed in.
+    pub fn with(mut self, session: (u32, u32)) -> Call {
+        if let Call::Edit { f, k, .. }
+        | Call::Undo { f, k }
+        | Call::Redo { f, k }
+        | Call::PutBack { f, k } = &mut self
+        {
+            (*f, *k) = session;
+        }
+        self
+    }
+}
+
+/// A lent slice and what it is called.
+pub type Lent = (&'static str, Vec<u8>);
+
+/// One call with all its slices, in the order of the exported call, or a session.
+#[derive(Clone, Debug)]
 pub enum Case {
-    Read { floor: Vec<u8>, work: Vec<u8> },
-    Rewrite { floor: Vec<u8>, work: Vec<u8>, out: Vec<u8> },
-    Query { floor: Vec<u8>, work: Vec<u8>, x: i32, y: i32 },
+    One { call: Call, lent: Vec<Lent> },
     Session(Play),
-    LayoutRewrite { text: Vec<u8>, out: Vec<u8> },
-    LayoutRename { text: Vec<u8>, room: u32, name: Vec<u8>, out: Vec<u8> },
-    SightRewrite { layout: Vec<u8>, vis: Vec<u8>, out: Vec<u8> },
-    SightRename { layout: Vec<u8>, vis: Vec<u8>, room: u32, name: Vec<u8>, out: Vec<u8> },
-    SightRow { layout: Vec<u8>, vis: Vec<u8>, room: u32 },
-    LinkCheck { floor: Vec<u8>, work: Vec<u8>, layout: Vec<u8> },
-    Caption { visitor: Vec<u8>, house: Vec<u8>, room: u32 },
+}
+
+fn one<const N: usize>(call: Call, lent: [Lent; N]) -> Case {
+    Case::One {
+        call,
+        lent: lent.to_vec(),
+    }
 }
 
 /// Case number `number` of the run with this seed.
@@ -82,21 +116,20 @@ fn mostly_good_floor(random: &mut Random) -> Vec<u8> {
 }
 
 fn read(random: &mut Random) -> Case {
-    Case::Read {
-        floor: any_floor(random),
-        work: work(random),
-    }
+    let floor = any_floor(random);
+    one(Call::Read, [("floor", floor), ("work", work(random))])
 }
 
 fn rewrite(random: &mut Random) -> Case {
     let floor = mostly_good_floor(random);
     let mut space = vec![0; floor.len() + 16];
     let wanted = form::rewrite(&floor, &mut vec![0; WORK], &mut space).length;
-    Case::Rewrite {
-        floor,
-        work: work(random),
-        out: out(random, wanted as usize),
-    }
+    let work = work(random);
+    let out = out(random, wanted as usize);
+    one(
+        Call::Rewrite,
+        [("floor", floor), ("work", work), ("out", out)],
+    )
 }
 
 fn query(random: &mut Random) -> Case {
@@ -104,12 +137,8 @@ fn query(random: &mut Random) -> Case {
     if random.once_in(12) {
         floor = any_floor(random);
     }
-    Case::Query {
-        floor,
-        work: work(random),
-        x,
-        y,
-    }
+    let call = Call::Query { x, y };
+    one(call, [("floor", floor), ("work", work(random))])
 }
 
 /// A text from a plan: spaced out, and damaged or filled up if wanted.
@@ -142,10 +171,8 @@ fn layout_rewrite(random: &mut Random) -> Case {
     let damaged = !random.once_in(4);
     let text = layout_text(random, &rooms, damaged);
     let wanted = layout::rewrite(&text, &mut vec![0; 20_000]).length;
-    Case::LayoutRewrite {
-        text,
-        out: out(random, wanted as usize),
-    }
+    let out = out(random, wanted as usize);
+    one(Call::LayoutRewrite, [("text", text), ("out", out)])
 }
 
 /// A typed name: new, a room's own or another's, or wrong.
@@ -188,12 +215,9 @@ fn layout_rename(random: &mut Random) -> Case {
     let text = layout_text(random, &rooms, damaged);
     let (room, name) = (room(random, &rooms), typed(random, &rooms));
     let wanted = layout::rename(&text, room, &name, &mut vec![0; 20_000]).length;
-    Case::LayoutRename {
-        text,
-        room,
-        name,
-        out: out(random, wanted as usize),
-    }
+    let out = out(random, wanted as usize);
+    let call = Call::LayoutRename { room };
+    one(call, [("text", text), ("name", name), ("out", out)])
 }
 
 /// A layout and a sight text over it.
@@ -215,11 +239,11 @@ fn both_texts(random: &mut Random, damage: usize) -> (Vec<Word>, Vec<u8>, Vec<u8
 fn sight_rewrite(random: &mut Random) -> Case {
     let (_, layout, vis) = both_texts(random, 2);
     let wanted = sight::rewrite(&layout, &vis, &mut vec![0; 66_000]).length;
-    Case::SightRewrite {
-        layout,
-        vis,
-        out: out(random, if wanted == 0 { 66_000 } else { wanted as usize }),
-    }
+    let out = out(random, if wanted == 0 { 66_000 } else { wanted as usize });
+    one(
+        Call::SightRewrite,
+        [("layout", layout), ("vis", vis), ("out", out)],
+    )
 }
 
 fn sight_rename(random: &mut Random) -> Case {
@@ -232,22 +256,23 @@ fn sight_rename(random: &mut Random) -> Case {
         false => (room(random, &rooms), typed(random, &rooms)),
     };
     let wanted = sight::rename(&layout, &vis, room, &name, &mut vec![0; 66_000]).length;
-    Case::SightRename {
-        layout,
-        vis,
-        room,
-        name,
-        out: out(random, if wanted == 0 { 66_000 } else { wanted as usize }),
-    }
+    let out = out(random, if wanted == 0 { 66_000 } else { wanted as usize });
+    let call = Call::SightRename { room };
+    one(
+        call,
+        [
+            ("layout", layout),
+            ("vis", vis),
+            ("name", name),
+            ("out", out),
+        ],
+    )
 }
 
 fn sight_row(random: &mut Random) -> Case {
     let (rooms, layout, vis) = both_texts(random, 2);
-    Case::SightRow {
-        layout,
-        vis,
-        room: room(random, &rooms),
-    }
+    let room = room(random, &rooms);
+    one(Call::SightRow { room }, [("layout", layout), ("vis", vis)])
 }
 
 /// A floor and a layout with any number of rooms, often just enough for its transitions.
@@ -263,20 +288,21 @@ fn link_check(random: &mut Random) -> Case {
     }
     let rooms = texts::names(random, rooms);
     let damaged = random.once_in(6);
-    Case::LinkCheck {
-        floor,
-        work: work(random),
-        layout: layout_text(random, &rooms, damaged),
-    }
+    let layout = layout_text(random, &rooms, damaged);
+    let work = work(random);
+    one(
+        Call::LinkCheck,
+        [("floor", floor), ("work", work), ("layout", layout)],
+    )
 }
 
 fn caption(random: &mut Random) -> Case {
     let (visitor, house) = (texts::rooms(random), texts::rooms(random));
     let damaged = [random.once_in(2), random.once_in(3)];
     let rooms = if random.once_in(2) { &visitor } else { &house };
-    Case::Caption {
-        room: room(random, rooms),
-        visitor: layout_text(random, &visitor, damaged[0]),
-        house: layout_text(random, &house, damaged[1]),
-    }
+    let room = room(random, rooms);
+    let visitor = layout_text(random, &visitor, damaged[0]);
+    let house = layout_text(random, &house, damaged[1]);
+    let call = Call::Caption { room };
+    one(call, [("visitor", visitor), ("house", house)])
 }

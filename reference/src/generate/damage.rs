@@ -21,12 +21,26 @@ fn any_model(random: &mut Random) -> Model {
     if random.once_in(60) {
         return floors::chain(random, 65);
     }
+    if random.once_in(300) {
+        return large_model(random);
+    }
     let wish = any_wish(random);
     floors::floor(random, wish)
 }
 
-/// A floor with some faces, so that there is something to damage.
+fn large_model(random: &mut Random) -> Model {
+    match random.under(3) {
+        0 => floors::large(random, 64, 32),
+        1 => floors::crowded(random, 4_096),
+        _ => floors::crowded(random, 500),
+    }
+}
+
+/// A floor with some faces, so that there is something to damage; now and then as many as allowed.
 fn some_model(random: &mut Random) -> Model {
+    if random.once_in(300) {
+        return large_model(random);
+    }
     let wish = any_wish(random);
     let wish = Wish {
         columns: wish.columns.max(1),
@@ -36,14 +50,18 @@ fn some_model(random: &mut Random) -> Model {
     floors::floor(random, wish)
 }
 
-/// A floor damaged at one to three places, aimed at rules picked with equal chance.
+/// A floor damaged at one to three places, aimed at any rules, the later ones more often.
 pub fn bad(random: &mut Random) -> Vec<u8> {
     let mut model = match random.once_in(8) {
         true => any_model(random),
         false => some_model(random),
     };
     let times = random.pick(&[1, 1, 1, 1, 2, 2, 3]);
-    let mut aims: Vec<u32> = (0..times).map(|_| random.from_to(1, 19) as u32).collect();
+    let aim = |random: &mut Random| match random.once_in(6) {
+        true => random.from_to(1, 6) as u32,
+        false => random.from_to(7, 19) as u32,
+    };
+    let mut aims: Vec<u32> = (0..times).map(|_| aim(random)).collect();
     aims.sort_by(|one, other| other.cmp(one)); // the length last: the others need the header
     aims.dedup();
     for aim in aims.iter().filter(|aim| **aim >= 8) {

@@ -4,7 +4,7 @@
 use super::model::{Model, NodeWords};
 use super::random::Random;
 use crate::grid::bits_of;
-use std::collections::HashMap;
+use std::collections::{HashMap, HashSet};
 
 const WALKABLE: [u32; 16] = [1, 3, 4, 5, 6, 9, 10, 11, 12, 13, 14, 16, 18, 20, 21, 22];
 const OTHERS: [u32; 7] = [0, 2, 7, 8, 15, 17, 19];
@@ -42,7 +42,7 @@ pub enum TreeShape {
 
 /// A wish for a floor of any small size, mostly under 30 faces, at most about 200.
 pub fn any_wish(random: &mut Random) -> Wish {
-    let widest = random.pick(&[1, 1, 2, 2, 3, 3, 4, 5, 7]);
+    let widest = random.pick(&[1, 1, 2, 2, 3, 3, 4, 5, 7, 9]);
     Wish {
         storeys: random.pick(&[1, 1, 1, 2, 3]),
         columns: random.under(widest + 1),
@@ -107,6 +107,32 @@ pub fn large(random: &mut Random, columns: usize, rows: usize) -> Model {
         deepest: 64,
     };
     floor(random, wish)
+}
+
+/// A floor of this many faces over 4,096 vertices, any three of them a face, but no two faces along
+/// one side: every half-edge of a walkable face is a border.
+pub fn crowded(random: &mut Random, faces: usize) -> Model {
+    let mut model = Model::default();
+    for _ in 0..4_096 {
+        let corner = [0; 3].map(|_: i32| bits_of(random.from_to(-65_536, 65_536)));
+        model.vertices.push(corner);
+    }
+    let mut sides = HashSet::new();
+    while model.faces.len() < faces {
+        let [a, b, c] = [0; 3].map(|_: i32| random.under(4_096) as u32);
+        let new = [(a, b), (b, c), (c, a)].map(|(one, other)| (one.min(other), one.max(other)));
+        if a != b && b != c && c != a && new.iter().all(|side| !sides.contains(side)) {
+            sides.extend(new);
+            model.faces.push([a, b, c]);
+        }
+    }
+    let wish = Wish {
+        tree: random.pick(&[TreeShape::Any, TreeShape::Near]),
+        unwalkable: random.pick(&[0, 5]),
+        ..any_wish(random)
+    };
+    finish(&mut model, random, wish);
+    model
 }
 
 /// A use position's float: mostly on the grid, often at its ends or a zero of either sign.

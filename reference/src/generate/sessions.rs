@@ -1,6 +1,7 @@
 //! Sessions: runs of edits, undos, redos and put-backs, with good and bad arguments, journals that
 //! are too small or spoilt, and records that nobody wrote.
 
+use super::cases::Call;
 use super::damage;
 use super::floors::{self, any_wish, Wish};
 use super::random::Random;
@@ -12,21 +13,8 @@ use crate::words::{put_word, word_at};
 /// One move of a session.
 #[derive(Clone, Copy, Debug)]
 pub enum Move {
-    Paint {
-        face: u32,
-        material: u32,
-    },
-    Link {
-        entry: u32,
-        transition: i32,
-    },
-    Nudge {
-        place: u32,
-        step: i32,
-    },
-    Undo,
-    Redo,
-    PutBack,
+    /// A call; its f and k are those of the session.
+    Call(Call),
     /// The next call is handed these; if it refuses, the session goes on as before.
     HandIn {
         f: u32,
@@ -41,6 +29,22 @@ pub enum Move {
         at: usize,
         by: u8,
     },
+}
+
+const UNDO: Move = Move::Call(Call::Undo { f: 0, k: 0 });
+const REDO: Move = Move::Call(Call::Redo { f: 0, k: 0 });
+const PUT_BACK: Move = Move::Call(Call::PutBack { f: 0, k: 0 });
+
+/// An edit as a move.
+fn edit(tag: u8, place: u32, to: u32) -> Move {
+    let (f, k) = (0, 0);
+    Move::Call(Call::Edit {
+        tag,
+        f,
+        k,
+        place,
+        to,
+    })
 }
 
 /// A floor, a journal, what is handed in first, and the moves.
@@ -112,9 +116,12 @@ fn with_moves(random: &mut Random, floor: Vec<u8>, moves: usize) -> Play {
 fn run_of_moves(random: &mut Random, count: usize, floor: &[u8], journal: usize) -> Vec<Move> {
     let mut moves: Vec<Move> = Vec::new();
     while moves.len() < count {
-        let wanders = matches!(moves.last(), Some(Move::Undo | Move::Redo));
+        let wanders = matches!(
+            moves.last(),
+            Some(Move::Call(Call::Undo { .. } | Call::Redo { .. }))
+        );
         moves.push(match wanders && random.once_in(2) {
-            true => random.pick(&[Move::Undo, Move::Redo]),
+            true => random.pick(&[UNDO, REDO]),
             false => any_move(random, floor, journal),
         });
     }
@@ -132,17 +139,11 @@ fn count(floor: &[u8], field: usize) -> usize {
 fn any_move(random: &mut Random, floor: &[u8], journal: usize) -> Move {
     match random.under(50) {
         0..=11 => paint(random, floor),
-        12..=19 => Move::Link {
-            entry: place(random, count(floor, 120)),
-            transition: match random.under(6) {
-                0 => random.odd_word() as i32,
-                _ => random.from_to(-1, 63) as i32,
-            },
-        },
+        12..=19 => link(random, floor),
         20..=30 => nudge(random, floor),
-        31..=40 => Move::Undo,
-        41..=43 => Move::Redo,
-        44 | 45 => Move::PutBack,
+        31..=40 => UNDO,
+        41..=43 => REDO,
+        44 | 45 => PUT_BACK,
         46 => Move::HandIn {
             f: random.pick(&[0, 1, 2, 3, 4_096, 4_097, records_in(journal)]),
             k: random.pick(&[0, 1, 2, 3, 4_096, 0xFFFF_FFFF, records_in(journal)]),
@@ -182,7 +183,17 @@ fn paint(random: &mut Random, floor: &[u8]) -> Move {
         _ if walkable => random.pick(&[1, 3, 4, 5, 6, 9, 14, 16, 18, 20, 22]),
         _ => random.pick(&[0, 2, 7, 8, 15, 17, 19]),
     };
-    Move::Paint { face, material }
+    edit(PAINT, face, material)
+}
+
+/// A link, mostly with a right transition.
+fn link(random: &mut Random, floor: &[u8]) -> Move {
+    let entry = place(random, count(floor, 120));
+    let transition = match random.under(6) {
+        0 => random.odd_word(),
+        _ => random.from_to(-1, 63) as u32,
+    };
+    edit(LINK, entry, transition)
 }
 
 /// A nudge, often one that ends at zero or at the end of the grid.
@@ -204,7 +215,7 @@ fn nudge(random: &mut Random, floor: &[u8]) -> Move {
         4 => random.pick(&[640, 641, -640, -641, i32::MIN, i32::MAX]),
         _ => random.from_to(-640, 640) as i32,
     };
-    Move::Nudge { place, step }
+    edit(NUDGE, place, step as u32)
 }
 
 /// A journal of 4,096 records or nearly so, where every record repaints face 0 as it is.
@@ -239,13 +250,13 @@ fn near_the_end(random: &mut Random, floor: &[u8]) -> Move {
     match random.under(12) {
         0..=3 => paint(random, floor),
         4 | 5 => nudge(random, floor),
-        6 | 7 => Move::Undo,
-        8 | 9 => Move::Redo,
+        6 | 7 => UNDO,
+        8 | 9 => REDO,
         10 => Move::SpoilJournal {
             at: RECORD * 4_000 + random.under(RECORD),
             by: 1,
         },
-        _ => Move::PutBack,
+        _ => PUT_BACK,
     }
 }
 
@@ -274,7 +285,7 @@ fn crafted(random: &mut Random) -> Play {
         }
     }
     let moves = (0..random.from_to(1, 4))
-        .map(|_| random.pick(&[Move::Undo, Move::Redo, Move::PutBack]))
+        .map(|_| random.pick(&[UNDO, REDO, PUT_BACK]))
         .collect();
     Play {
         floor,
