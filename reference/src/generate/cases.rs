@@ -63,8 +63,8 @@ pub fn case(seed: u64, number: u64) -> Case {
     let mut random = Random::of_case(seed, number);
     let random = &mut random;
     match random.under(40) {
-        0..=10 => read(random),
-        11..=13 => rewrite(random),
+        0..=11 => read(random),
+        12 | 13 => rewrite(random),
         14..=18 => query(random),
         19..=25 => Case::Session(sessions::play(random)),
         26..=28 => layout_rewrite(random),
@@ -222,7 +222,7 @@ fn layout_rename(random: &mut Random) -> Case {
 
 /// A layout and a sight text over it.
 fn both_texts(random: &mut Random, damage: usize) -> (Vec<Word>, Vec<u8>, Vec<u8>) {
-    if random.once_in(25) {
+    if random.once_in(15) {
         let (rooms, plan) = texts::dense(random);
         let layout = layout_text(random, &rooms, false);
         return (rooms, layout, texts::plain(&plan));

@@ -102,10 +102,10 @@ fn damage_bytes(bytes: &mut Vec<u8>, random: &mut Random, aim: u32) {
         1 => wrong_length(bytes, random),
         2 => bytes[random.under(8)] ^= 1 << random.under(8),
         3 => put_word(bytes, 8, random.pick(&[0, 2, 256, 0x0100_0000, NONE])),
-        4 => large_count(bytes, random),
+        4 => (0..random.from_to(1, 2)).for_each(|_| large_count(bytes, random)),
         5 => offset_outside(bytes, random),
         6 => offset_shared(bytes, random),
-        _ => not_finite(bytes, random),
+        _ => (0..random.from_to(1, 3)).for_each(|_| not_finite(bytes, random)),
     }
 }
 
@@ -170,7 +170,7 @@ fn offset_shared(bytes: &mut [u8], random: &mut Random) {
 }
 
 fn not_finite(bytes: &mut [u8], random: &mut Random) {
-    let table = random.pick(&[0, 3, 4, 5, 9]);
+    let table = random.pick(&[0, 3, 4, 5, 5, 9]);
     let at = match table {
         9 => 12 + 4 * random.under(15),
         _ => {

@@ -80,9 +80,11 @@ impl Model {
         for table in order {
             let gap = random.pick(&[0, 0, 1, 2, 3, 4, 7, 33]);
             bytes.extend(random.bytes(gap));
+            let position = random.under(bytes.len());
             append(&mut bytes, table, &tables[table]);
             if tables[table].is_empty() {
-                put_word(&mut bytes, FIELDS[table].offset, random.odd_word());
+                let anywhere = [136, 137, position as u32, random.odd_word()];
+                put_word(&mut bytes, FIELDS[table].offset, random.pick(&anywhere));
             }
         }
         let gap = random.pick(&[0, 0, 1, 5]);

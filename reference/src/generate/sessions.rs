@@ -4,6 +4,7 @@
 use super::cases::Call;
 use super::damage;
 use super::floors::{self, any_wish, Wish};
+use super::model::Model;
 use super::random::Random;
 use crate::floor::tables::FIELDS;
 use crate::grid;
@@ -81,8 +82,25 @@ fn small_floor(random: &mut Random) -> Vec<u8> {
         holes: wish.holes * random.under(2),
         ..wish
     };
-    let model = floors::floor(random, wish);
+    let mut model = floors::floor(random, wish);
+    if random.once_in(3) {
+        break_later_rules(&mut model, random);
+    }
     model.bytes(random)
+}
+
+/// Gives some faces a material and some edges a transition that no edit would write.
+fn break_later_rules(model: &mut Model, random: &mut Random) {
+    for material in &mut model.materials {
+        if random.once_in(4) {
+            *material = random.pick(&[23, 23, 24, 0xFFFF_FFFF]);
+        }
+    }
+    for edge in &mut model.edges {
+        if random.once_in(4) {
+            edge[1] = random.pick(&[64, 99, 0xFFFF_FFFE]);
+        }
+    }
 }
 
 /// A floor that some rule from 1 to 6 refuses, more often than not.
@@ -303,11 +321,16 @@ fn any_record(random: &mut Random, floor: &[u8]) -> Record {
         LINK => count(floor, 120),
         _ => 12,
     };
+    let place = place(random, places);
+    let [old, new] = match tag == PAINT && random.once_in(4) {
+        true => random.pick(&[[7, 23], [23, 7], [24, 0], [0, 0xFFFF_FFFF], [23, 23]]),
+        false => [any_word(random, tag), any_word(random, tag)],
+    };
     Record {
         tag,
-        place: place(random, places),
-        old: any_word(random, tag),
-        new: any_word(random, tag),
+        place,
+        old,
+        new,
     }
 }
 
@@ -316,8 +339,8 @@ fn any_word(random: &mut Random, tag: u8) -> u32 {
     match tag {
         PAINT => match random.under(4) {
             0 => random.pick(&[22, 23, 24, 0xFFFF_FFFF]),
-            1 => random.under(24) as u32,
-            _ => random.pick(&[1, 3, 4, 5]),
+            1 => random.pick(&[0, 2, 7, 8, 19]),
+            _ => random.pick(&[1, 3, 4, 5, 22]),
         },
         LINK => match random.under(3) {
             0 => random.pick(&[64, 65, 0xFFFF_FFFE, 0x8000_0000]),

@@ -9,13 +9,14 @@ pub fn plan(random: &mut Random, plan: &mut Plan) {
         if plan.is_empty() {
             plan.push(vec![texts::name(random)]);
         }
-        match random.under(8) {
+        match random.under(9) {
             0 | 1 => lines(random, plan),
             2 => words(random, plan),
             3 => keyword(random, plan),
             4 => name(random, plan),
             5 => number(random, plan),
             6 => count(random, plan),
+            7 => one_line(random, plan),
             _ => twice(random, plan),
         }
     }
@@ -141,6 +142,17 @@ fn count(random: &mut Random, plan: &mut Plan) {
     plan[random.pick(&places)][1] = wrong.as_bytes().to_vec();
 }
 
+/// Several words of one line wrong at once, so that the order of the rules is tried.
+fn one_line(random: &mut Random, plan: &mut Plan) {
+    let at = random.under(plan.len());
+    for word in &mut plan[at] {
+        if random.once_in(2) {
+            let wrong = ["x.y", "nobody_knows", "65", "1.", "-", "a_very_long_name1"];
+            *word = random.pick(&wrong).as_bytes().to_vec();
+        }
+    }
+}
+
 /// A name that stands somewhere already, in letters of any case: 37.
 fn twice(random: &mut Random, plan: &mut Plan) {
     let near = random.under(plan.len());
@@ -156,6 +168,9 @@ fn twice(random: &mut Random, plan: &mut Plan) {
     }
 }
 
+/// Bytes that stand beside an allowed one in the table of classes, and other likely mistakes.
+const BESIDE: &[u8] = b"/:@[`{,+^\x0b\x0c\x08\x1f!\x7f\x00\x80\xff";
+
 /// Damages the bytes of a text: 31, 32, or whatever comes of it.
 pub fn bytes(random: &mut Random, text: &mut Vec<u8>) {
     for _ in 0..random.pick(&[1, 1, 2]) {
@@ -163,7 +178,7 @@ pub fn bytes(random: &mut Random, text: &mut Vec<u8>) {
         match random.under(7) {
             0 => text.insert(at, b'\r'),
             1 => text.insert(at, random.pick(b"\n \t.-_a0Z9")),
-            2 => text.insert(at, random.byte()),
+            2 => text.insert(at, random.pick(BESIDE)),
             3 if !text.is_empty() => text.truncate(at),
             4 if at < text.len() => text[at] = random.byte(),
             5 if at < text.len() => drop(text.remove(at)),
