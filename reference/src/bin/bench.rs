@@ -100,11 +100,12 @@ fn texts_table(sides: &[Calls]) {
     for rooms in [8, 16, 32, 64] {
         let names = texts::names(&mut random, rooms);
         let layout = texts::plain(&rooms_only(&mut random, &names));
+        let vis = texts::plain(&all_see_all(&names));
         let mut out = vec![0; 65_536];
+        assert_eq!((REFERENCE.sight_rewrite)(&layout, &vis, &mut out).number, 0);
         row("layout_rewrite", rooms, sides, &mut layouts, |side| {
             black_box((side.layout_rewrite)(&layout, &mut out));
         });
-        let vis = texts::plain(&all_see_all(&names));
         row("sight_rewrite", rooms, sides, &mut sights, |side| {
             black_box((side.sight_rewrite)(&layout, &vis, &mut out));
         });
@@ -137,7 +138,7 @@ fn all_see_all(names: &[texts::Word]) -> texts::Plan {
     plan
 }
 
-/// One row: microseconds on each side, the second by the first, and the first by the row before.
+/// One row: microseconds on each side, the second by the first, and the last by the row before.
 fn row(
     name: &str,
     size: usize,

@@ -40,7 +40,7 @@ pub enum TreeShape {
     Chain,
 }
 
-/// A wish for a floor of any small size, mostly under 30 faces, at most about 200.
+/// A wish for a floor of any small size, mostly under 30 faces, at most a few hundred.
 pub fn any_wish(random: &mut Random) -> Wish {
     let widest = random.pick(&[1, 1, 2, 2, 3, 3, 4, 5, 7, 9]);
     Wish {
