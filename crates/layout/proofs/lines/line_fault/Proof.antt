@@ -1,0 +1,56 @@
+-- `layout::lines::line_fault` meets its contract. Assumes nothing.
+use mathlib.Core.Path.{_≡_, refl, sym, ap, _∙_}
+use Rattle.layout.specs.Starts.{stateOf}
+use Rattle.layout.proofs.FaultLaws.{fault-blank, fault-entry, fault-open}
+use borrow.Author.Needs.{needs}
+use Rattle.layout.proofs.lines.line_fault.Statement.{statement}
+use Rattle.layout.proofs.lines.line_fault.Tie as tie
+
+line-at-requires : tie.Need-line-at-requires
+line-at-requires c κs = search needs
+
+word-count-requires : tie.Need-word-count-requires
+word-count-requires c κs = search needs
+
+returns : tie.Need-returns
+returns c = fault-blank _ _ _ _ (c .before .before .line-at .ensures) _ (c .before .word-count .ensures) (c .if1 .taken)
+
+entry-fault-requires : tie.Need-entry-fault-requires
+entry-fault-requires c κs = search needs
+
+returns-2 : tie.Need-returns-2
+unfolding stateOf
+returns-2 c =
+    let d = c .before in
+    let e = d .before .before in
+    fault-entry _ _ _ _ (e .before .before .line-at .ensures) _ (e .before .word-count .ensures) _ (e .if1 .left) (d .if2 .taken) (c .entry-fault .ensures)
+
+word-requires : tie.Need-word-requires
+word-requires c κs = search needs
+
+opened-requires : tie.Need-opened-requires
+opened-requires c κs = search needs
+
+open-fault-requires : tie.Need-open-fault-requires
+open-fault-requires c κs = search needs
+
+returns-3 : tie.Need-returns-3
+unfolding stateOf
+returns-3 c =
+    let d = c .before .before .before in
+    let e = d .before .before in
+    fault-open _ _ _ _ (e .before .before .line-at .ensures) _ (e .before .word-count .ensures) _ _ _ (e .if1 .left) (d .if2 .left) (c .before .before .word .ensures) (c .before .opened .ensures) (c .open-fault .ensures)
+
+pub line-fault-spec : {M : Type 1} → statement M
+line-fault-spec =
+    tie.close
+    (tie.spec
+    line-at-requires
+    word-count-requires
+    returns
+    entry-fault-requires
+    returns-2
+    word-requires
+    opened-requires
+    open-fault-requires
+    returns-3)

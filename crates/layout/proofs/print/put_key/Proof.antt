@@ -1,0 +1,12 @@
+-- `layout::print::put_key` meets its contract. Assumes nothing.
+use Rattle.text.proofs.WriteLaws.{wrote-then}
+use Rattle.layout.proofs.PrintLaws.{wrote-is, key-bytes}
+use borrow.Author.Needs.{needs}
+use Rattle.layout.proofs.print.put_key.Statement.{statement}
+use Rattle.layout.proofs.print.put_key.Tie as tie
+
+returns : tie.Need-returns
+returns c = wrote-is _ (wrote-then (c .before .before .before .before .before .before .put-word .ensures) (c .before .before .put-byte .ensures)) (key-bytes _)
+
+pub put-key-spec : {M : Type 1} → statement M
+put-key-spec = tie.close (tie.spec (search needs) (search needs) (search needs) returns)

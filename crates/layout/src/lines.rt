@@ -1,0 +1,312 @@
+// A line of a layout: what is wrong with it, and what it adds to what the reader keeps.
+use super::Progress;
+use text::is_name;
+use text::line_at;
+use text::word;
+use text::word_count;
+ghost use mathlib.Core.Path.{_≡_};
+ghost use mathlib.Core.Bool.{true, not, _&&_};
+ghost use Prim.Native.Nat.{_+_, _-_, _<_, _≤_};
+ghost use lib.ListN.{length, getD};
+ghost use lib.Dec.{eqb};
+ghost use Rattle.text.specs.Scan.{words};
+ghost use Rattle.text.specs.Name.{isName, sameName};
+ghost use Rattle.text.specs.Reading.{nth};
+ghost use Rattle.layout.specs.Grammar.{sectionOf, follows, opens, placed, wordsOf, countRight, openFault, entryFault, fault, namesOf};
+ghost use Rattle.layout.specs.Layout.{section};
+ghost use Rattle.layout.specs.Rewrite.{knownBut};
+ghost use Rattle.layout.specs.Starts.{entryAt, held, stateOf, countIn, entered, movedTo, slotOf, kept, Named};
+
+// The section that a keyword opens, 0 for no keyword.
+pub(crate) fn section_of(w: &[u8]) -> usize
+    ensures { λ r. ⌜ r ≡ sectionOf (now (w .entry)) ⌝ }
+{
+    if text::same_word(w, b"beginlayout") {
+        return 1;
+    }
+    if text::same_word(w, b"roomcount") {
+        return 2;
+    }
+    if text::same_word(w, b"trackcount") {
+        return 3;
+    }
+    if text::same_word(w, b"obstaclecount") {
+        return 4;
+    }
+    if text::same_word(w, b"doorhookcount") {
+        return 5;
+    }
+    if text::same_word(w, b"donelayout") {
+        return 6;
+    }
+    0
+}
+
+// Section k may follow behind `sect`.
+pub(crate) fn may_follow(sect: usize, k: usize) -> bool
+    ensures { λ r. ⌜ r ≡ follows sect k ⌝ }
+{
+    if k == 0 {
+        return false;
+    }
+    if k <= 2 {
+        return sect == k - 1;
+    }
+    if sect < 2 {
+        return false;
+    }
+    sect < k
+}
+
+// The section that a word opens behind `sect`, 0 for none.
+pub(crate) fn opened(sect: usize, w: &[u8]) -> usize
+    ensures { λ r. ⌜ r ≡ opens sect (now (w .entry)) ⌝ }
+{
+    let k = section_of(w);
+    if may_follow(sect, k) {
+        return k;
+    }
+    0
+}
+
+// The count of section k is right.
+pub(crate) fn count_right(k: usize, w: &[u8]) -> bool
+    ensures { λ r. ⌜ r ≡ countRight k (now (w .entry)) ⌝ }
+{
+    if text::is_count(w) {
+        if k == 5 {
+            return text::count_of(w) == 0;
+        }
+        return true;
+    }
+    false
+}
+
+// How many words the line that opens section k has.
+pub(crate) fn words_of(k: usize) -> usize
+    ensures { λ r. ⌜ r ≡ wordsOf k ⌝ }
+{
+    if k < 2 {
+        return 1;
+    }
+    if k <= 5 {
+        return 2;
+    }
+    1
+}
+
+// What is wrong with a line that is to open section k.
+pub(crate) fn open_fault(k: usize, l: &[u8]) -> u32
+    ensures { λ r. ⌜ r ≡ openFault k (words (now (l .entry))) ⌝ }
+{
+    if k == 0 {
+        return 33;
+    }
+    let n = words_of(k);
+    if word_count(l) != n {
+        return 33;
+    }
+    if n == 1 {
+        return 0;
+    }
+    if count_right(k, word(l, 1)) {
+        return 0;
+    }
+    36
+}
+
+// What a count says, 0 where it is none.
+pub(crate) fn count_in(w: &[u8]) -> usize
+    ensures { λ r. ⌜ r ≡ countIn (now (w .entry)) ⌝ }
+{
+    if text::is_count(w) {
+        return text::count_of(w);
+    }
+    0
+}
+
+// An entry's three numbers are numbers.
+pub(crate) fn is_placed(l: &[u8]) -> bool
+    ensures { λ r. ⌜ r ≡ placed (words (now (l .entry))) ⌝ }
+{
+    if text::number(word(l, 1)).ok {
+        if text::number(word(l, 2)).ok {
+            return text::number(word(l, 3)).ok;
+        }
+        return false;
+    }
+    false
+}
+
+// Entry j, if it is another than `but`, has this name; letter case is ignored.
+pub(crate) fn is_named(s: &[u8], starts: &[usize], j: usize, but: usize, w: &[u8]) -> bool
+    requires { ⌜ (j < length (now starts)) × ((isName (now w) ≡ true) × (isName (nth (entryAt (now s) (getD (now starts) j 0)) 0) ≡ true)) ⌝ }
+    ensures { λ r. ⌜ r ≡ (not (eqb j but) && sameName (now (w .entry)) (nth (entryAt (now (s .entry)) (getD (now (starts .entry)) j 0)) 0)) ⌝ }
+{
+    if j == but {
+        return false;
+    }
+    text::same_name(w, word(line_at(s, starts[j]), 0))
+}
+
+// One of the first n entries, another than `but`, has this name.
+pub(crate) fn is_known(s: &[u8], starts: &[usize], n: usize, but: usize, w: &[u8]) -> bool
+    requires { ⌜ (n ≤ length (now starts)) × ((isName (now w) ≡ true) × Named (now s) (now starts) n) ⌝ }
+    ensures { λ r. ⌜ r ≡ knownBut but (now (w .entry)) (namesOf (held (now (s .entry)) (now (starts .entry)) 0 n)) ⌝ }
+{
+    let mut j = 0;
+    while j < n {
+        if is_named(s, starts, j, but, w) {
+            return true;
+        }
+        j += 1;
+    }
+    false
+}
+
+// What is wrong with an entry. Only rooms are checked for 37.
+pub(crate) fn entry_fault(s: &[u8], starts: &[usize], st: Progress, l: &[u8]) -> u32
+    requires { ⌜ (length (now starts) ≡ 192) × ((st .rooms ≤ 64) × Named (now s) (now starts) (st .rooms)) ⌝ }
+    ensures { λ r. ⌜ r ≡ entryFault (stateOf (now (s .entry)) (now (starts .entry)) st) (words (now (l .entry))) ⌝ }
+{
+    if word_count(l) != 4 {
+        return 33;
+    }
+    let w = word(l, 0);
+    if is_name(w) {
+        if is_placed(l) {
+            if st.sect != 2 {
+                return 0;
+            }
+            let n = st.rooms;
+            if is_known(s, starts, n, 64, w) {
+                return 37;
+            }
+            return 0;
+        }
+        return 35;
+    }
+    34
+}
+
+// What is wrong with the line that starts at a place; nothing if it is blank.
+pub(crate) fn line_fault(s: &[u8], starts: &[usize], st: Progress, at: usize) -> u32
+    requires { ⌜ (length (now starts) ≡ 192) × ((st .rooms ≤ 64) × Named (now s) (now starts) (st .rooms)) ⌝ }
+    ensures { λ r. ⌜ r ≡ fault (stateOf (now (s .entry)) (now (starts .entry)) st) (entryAt (now (s .entry)) at) ⌝ }
+{
+    let l = line_at(s, at);
+    if word_count(l) == 0 {
+        return 0;
+    }
+    if 0 < st.left {
+        return entry_fault(s, starts, st, l);
+    }
+    open_fault(opened(st.sect, word(l, 0)), l)
+}
+
+// One entry more, of a section that is neither that of rooms nor that of tracks.
+pub(crate) fn one_obstacle_more(st: Progress) -> Progress
+    requires { ⌜ (0 < st .left) × ((st .obstacles ≤ 64) × ((st .sect ≡ 2 → ⊥) × (st .sect ≡ 3 → ⊥))) ⌝ }
+    ensures { λ r. ⌜ r ≡ entered st ⌝ }
+{
+    let sect = st.sect;
+    let left = st.left - 1;
+    let rooms = st.rooms;
+    let tracks = st.tracks;
+    let obstacles = st.obstacles;
+    if sect == 4 {
+        return Progress {
+            sect,
+            left,
+            rooms,
+            tracks,
+            obstacles: obstacles + 1,
+        };
+    }
+    Progress {
+        sect,
+        left,
+        rooms,
+        tracks,
+        obstacles,
+    }
+}
+
+// One entry more in the section.
+pub(crate) fn one_more(st: Progress) -> Progress
+    requires { ⌜ (0 < st .left) × ((st .rooms ≤ 64) × ((st .tracks ≤ 64) × (st .obstacles ≤ 64))) ⌝ }
+    ensures { λ r. ⌜ r ≡ entered st ⌝ }
+{
+    let sect = st.sect;
+    let left = st.left - 1;
+    let rooms = st.rooms;
+    let tracks = st.tracks;
+    let obstacles = st.obstacles;
+    if sect == 2 {
+        return Progress {
+            sect,
+            left,
+            rooms: rooms + 1,
+            tracks,
+            obstacles,
+        };
+    }
+    if sect == 3 {
+        return Progress {
+            sect,
+            left,
+            rooms,
+            tracks: tracks + 1,
+            obstacles,
+        };
+    }
+    one_obstacle_more(st)
+}
+
+// The state behind a line.
+pub(crate) fn moved(st: Progress, l: &[u8]) -> Progress
+    requires { ⌜ (st .rooms ≤ 64) × ((st .tracks ≤ 64) × (st .obstacles ≤ 64)) ⌝ }
+    ensures { λ r. ⌜ r ≡ movedTo st (words (now (l .entry))) ⌝ }
+{
+    if word_count(l) == 0 {
+        return st;
+    }
+    if 0 < st.left {
+        return one_more(st);
+    }
+    let sect = opened(st.sect, word(l, 0));
+    let left = count_in(word(l, 1));
+    Progress {
+        sect,
+        left,
+        rooms: st.rooms,
+        tracks: st.tracks,
+        obstacles: st.obstacles,
+    }
+}
+
+// Where the next entry's start is kept.
+pub(crate) fn slot(st: Progress) -> usize
+    requires { ⌜ (st .tracks ≤ 64) × (st .obstacles ≤ 64) ⌝ }
+    ensures { λ r. ⌜ r ≡ slotOf st ⌝ }
+{
+    if st.sect == 2 {
+        return st.rooms;
+    }
+    if st.sect == 3 {
+        return 64 + st.tracks;
+    }
+    128 + st.obstacles
+}
+
+// Keeps the start of an entry.
+pub(crate) fn keep(starts: &mut [usize; 192], st: Progress, at: usize)
+    requires { ⌜ (st .tracks ≤ 64) × ((st .obstacles ≤ 64) × (0 < st .left → slotOf st < 192)) ⌝ }
+    ensures { λ _. ⌜ now (starts .exit) ≡ kept (now (starts .entry)) st at ⌝ }
+{
+    if st.left == 0 {
+        return;
+    }
+    let i = slot(st);
+    starts[i] = at;
+}

@@ -1,0 +1,64 @@
+-- `sight::lines::find_room` meets its contract. Assumes nothing.
+use mathlib.Core.Path.{_≡_, refl, sym, ap, _∙_}
+use native.Mathlib.Omega.{arith}
+use borrow.Author.Needs.{needs}
+use Prim.Native.Nat.{ℕ, _-_, _≤_}
+use mathlib.Core.Bool.{true, false}
+use Rattle.verdict.specs.Lowest.{lowest}
+use Rattle.verdict.proofs.Lowest.{lowest-none, lowest-more}
+use Rattle.text.specs.Name.{isName}
+use Rattle.sight.specs.Code.{keptNames}
+use Rattle.sight.proofs.FindLaws.{hasName, kept-good, find-turn, find-hit, find-none}
+use Rattle.sight.proofs.lines.find_room.Statement.{statement}
+use Rattle.sight.proofs.lines.find_room.Tie as tie
+
+abbrev Inv-loop : tie.InvT-loop
+Inv-loop layout starts n w j₀ j = (j ≤ n) × (lowest j (hasName (keptNames layout starts n) w) ≡ j)
+
+abbrev μ-loop : tie.MeasureT-loop
+μ-loop layout starts n w j₀ j = n - j
+
+loop-holds : tie.Need-loop-holds Inv-loop μ-loop
+loop-holds c = (omega arith, lowest-none _)
+
+room-name-requires : tie.Need-room-name-requires Inv-loop μ-loop
+room-name-requires c κs = search needs
+
+same-name-requires : tie.Need-same-name-requires Inv-loop μ-loop
+same-name-requires c κs =
+    let g = c .before .before .before .before .before .before in
+    (g .pre .1 .0, ap isName (c .room-name .ensures) ∙ kept-good _ _ _ (g .pre .0) (g .pre .1 .1) _ (c .before .loop-test .taken))
+
+returns : tie.Need-returns Inv-loop μ-loop
+returns c =
+    let g = c .before .before .before .before .before .before .before .before in
+    find-hit _ _ _ (g .pre .0) _ _ (c .before .before .before .loop-test .taken) (c .before .before .before .before .loop .inv .1) (find-turn _ _ _ (g .pre .0) _ _ _ _ true (c .before .before .before .loop-test .taken) (c .before .before .room-name .ensures) (c .before .same-name .ensures) (c .if1 .taken))
+
+add-j : tie.Need-add-j Inv-loop μ-loop
+add-j c = search needs
+
+loop-less : tie.Need-loop-less Inv-loop μ-loop
+loop-less c = search needs
+
+loop-again : tie.Need-loop-again Inv-loop μ-loop
+loop-again c =
+    let g = c .before .before .before .before .before .before .before .before in
+    (omega (arith, c .before .before .before .loop-test .taken), lowest-more _ _ (c .before .before .before .before .loop .inv .1) (find-turn _ _ _ (g .pre .0) _ _ _ _ false (c .before .before .before .loop-test .taken) (c .before .before .room-name .ensures) (c .before .same-name .ensures) (c .if1 .left)))
+
+returns-2 : tie.Need-returns-2 Inv-loop μ-loop
+returns-2 c = let g = c .before .before .before .before .before in find-none _ _ _ (g .pre .0) _ _ (c .loop-test .left) (c .before .loop .inv .1)
+
+pub find-room-spec : {M : Type 1} → statement M
+find-room-spec =
+    tie.close
+    (tie.spec
+    Inv-loop
+    μ-loop
+    loop-holds
+    room-name-requires
+    same-name-requires
+    returns
+    add-j
+    loop-less
+    loop-again
+    returns-2)

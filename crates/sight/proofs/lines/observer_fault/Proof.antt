@@ -1,0 +1,53 @@
+-- `sight::lines::observer_fault` meets its contract. Assumes nothing.
+use mathlib.Core.Path.{_≡_, refl, sym, ap, _∙_}
+use Rattle.text.specs.Name.{isName}
+use Rattle.text.specs.Count.{isCount}
+use Rattle.sight.proofs.FaultLaws.{observer-33, observer-34, observer-36, observer-room}
+use borrow.Author.Needs.{needs}
+use Rattle.sight.proofs.lines.observer_fault.Statement.{statement}
+use Rattle.sight.proofs.lines.observer_fault.Tie as tie
+
+word-count-requires : tie.Need-word-count-requires
+word-count-requires c κs = search needs
+
+returns : tie.Need-returns
+returns c = observer-33 _ _ _ _ (λ e. c .if1 .taken (c .before .word-count .ensures ∙ e))
+
+word-requires : tie.Need-word-requires
+word-requires c κs = search needs
+
+is-name-requires : tie.Need-is-name-requires
+is-name-requires c κs = search needs
+
+word-requires-2 : tie.Need-word-requires-2
+word-requires-2 c κs = search needs
+
+is-count-requires : tie.Need-is-count-requires
+is-count-requires c κs = search needs
+
+room-fault-requires : tie.Need-room-fault-requires
+room-fault-requires c κs = search needs
+
+returns-2 : tie.Need-returns-2
+returns-2 c = c .room-fault .ensures ∙ observer-room _ _ _ _ (sym (c .before .before .before .before .before .before .before .before .word-count .ensures) ∙ c .before .before .before .before .before .before .before .if1 .left) (ap isName (sym (c .before .before .before .before .before .before .word .ensures)) ∙ sym (c .before .before .before .before .before .is-name .ensures) ∙ c .before .before .before .before .if2 .taken) (ap isCount (sym (c .before .before .before .word2 .ensures)) ∙ sym (c .before .before .is-count .ensures) ∙ c .before .if3 .taken)
+
+returns-3 : tie.Need-returns-3
+returns-3 c = observer-36 _ _ _ _ (sym (c .before .before .before .before .before .before .before .word-count .ensures) ∙ c .before .before .before .before .before .before .if1 .left) (ap isName (sym (c .before .before .before .before .before .word .ensures)) ∙ sym (c .before .before .before .before .is-name .ensures) ∙ c .before .before .before .if2 .taken) (ap isCount (sym (c .before .before .word2 .ensures)) ∙ sym (c .before .is-count .ensures) ∙ c .if3 .left)
+
+returns-4 : tie.Need-returns-4
+returns-4 c = observer-34 _ _ _ _ (sym (c .before .before .before .before .word-count .ensures) ∙ c .before .before .before .if1 .left) (ap isName (sym (c .before .before .word .ensures)) ∙ sym (c .before .is-name .ensures) ∙ c .if2 .left)
+
+pub observer-fault-spec : {M : Type 1} → statement M
+observer-fault-spec =
+    tie.close
+    (tie.spec
+    word-count-requires
+    returns
+    word-requires
+    is-name-requires
+    word-requires-2
+    is-count-requires
+    room-fault-requires
+    returns-2
+    returns-3
+    returns-4)
