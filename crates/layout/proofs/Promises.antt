@@ -15,6 +15,7 @@ use Rattle.verdict.specs.Output.{formAnswer, formMemory}
 use Rattle.verdict.proofs.Bools.{clash, test}
 use Rattle.verdict.proofs.Output.{form-refused}
 use Rattle.text.specs.Class.{nameByte, isGap, isEnd}
+use Rattle.text.specs.Scan.{run, lineAt}
 use Rattle.text.specs.Name.{isName}
 use Rattle.text.proofs.NameLaws.{name-clean}
 use Rattle.text.specs.Reading.{Word, nth}
@@ -28,7 +29,7 @@ use Rattle.layout.proofs.GoodLaws.{GoodLine}
 use Rattle.layout.proofs.ReadLaws.{layout-good}
 use Rattle.layout.proofs.WholeLaws.{Answers}
 use Rattle.layout.proofs.PlaceLaws.{place-41}
-use Rattle.layout.proofs.CaptionPart.{name-part}
+use Rattle.layout.proofs.CaptionPart.{OwnLine, own-line, name-part}
 
 -- ---- rewriting
 
@@ -88,20 +89,27 @@ caption-41 v h i z =
 abbrev pub captionText : List ℕ → List ℕ → ℕ → List ℕ
 captionText v h i = cond (hasRoom v i) v h
 
--- where the number is 0, the place is the name's in room i's own line of that text ..
-pub caption-at-own : (v h : List ℕ) (i : ℕ) → captionNumber v h i ≡ 0 → (hasRoom (captionText v h i) i ≡ true) × (captionOf v h i ≡ roomName (captionText v h i) i) × (captionAt v h i .start ≡ roomPlace (captionText v h i) i)
+-- where the number is 0, that text has room i, and the place is that of its name ..
+pub caption-at-room : (v h : List ℕ) (i : ℕ) → captionNumber v h i ≡ 0 → (hasRoom (captionText v h i) i ≡ true) × (captionOf v h i ≡ roomName (captionText v h i) i) × (captionAt v h i .start ≡ roomPlace (captionText v h i) i)
 unfolding captionAt
-caption-at-own v h i z = go (caption-is v h i z)
+caption-at-room v h i z = go (caption-is v h i z)
   where
     go : ((hasRoom v i ≡ true) × (captionOf v h i ≡ roomName v i)) ⊎ ((hasRoom v i ≡ false) × ((hasRoom h i ≡ true) × (captionOf v h i ≡ roomName h i))) → (hasRoom (captionText v h i) i ≡ true) × (captionOf v h i ≡ roomName (captionText v h i) i) × (captionAt v h i .start ≡ roomPlace (captionText v h i) i)
     go (inl (e, q)) = (rw e e, rw e q, rw e)
     go (inr (n, (e, q))) = (rw n e, rw n q, rw (n, e))
 
+-- .. in room i's own line, behind its gap ..
+pub caption-at-own-line : (v h : List ℕ) (i : ℕ) → captionNumber v h i ≡ 0 → (a : ℕ) × OwnLine (captionText v h i) i a × (captionAt v h i .start ≡ a + run isGap (lineAt (captionText v h i) a))
+caption-at-own-line v h i z =
+    let (e, q, p) = caption-at-room v h i z in
+    let (a, o) = own-line (captionText v h i) i e in
+    (a, o, p ∙ o .place)
+
 -- .. and place and length cut the caption out of it
 pub caption-at-part : (v h : List ℕ) (i : ℕ) → captionNumber v h i ≡ 0 → let c = captionAt v h i in (take (c .length) (drop (c .start) (captionText v h i)) ≡ captionOf v h i) × (c .start + c .length ≤ length (captionText v h i))
 unfolding captionAt
 caption-at-part v h i z =
-    let (e, q, p) = caption-at-own v h i z in
+    let (e, q, p) = caption-at-room v h i z in
     rw (q, p) (name-part (captionText v h i) i e)
 
 -- `house` says which text it is: 0 for the visitor's, which has room i then, else 1
