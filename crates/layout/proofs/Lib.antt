@@ -15,5 +15,7 @@ pub mod PrintLaws
 pub mod WholeLaws
 pub mod AnswerLaws
 pub mod PlaceLaws
+pub mod RoomLaws
+pub mod CaptionPart
 pub mod Promises
 pub mod Examples
