@@ -3,6 +3,12 @@ use libc::STDOUT_FILENO;
 use verdict::Answer;
 ghost use Prim.Native.Nat.{_<_};
 
+mod crowd;
+mod floors;
+mod layouts;
+mod sights;
+mod texts;
+
 fn number(n: u32) {
     io::print_decimal(STDOUT_FILENO, n as u64);
 }
@@ -110,4 +116,8 @@ fn main() {
     headers();
     nudges();
     triangles();
+    layouts::all();
+    sights::all();
+    crowd::all();
+    floors::all();
 }
