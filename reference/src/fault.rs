@@ -1,0 +1,71 @@
+//! Faults that can be planted into this implementation, to show that the comparison notices them.
+//! Most are the errors that 01 expects someone to try. None is planted unless asked for.
+
+use std::cell::Cell;
+
+/// One deliberate departure from 01.
+#[derive(Clone, Copy, Debug, PartialEq, Eq)]
+pub enum Fault {
+    /// A nudge that leaves -0 as it is.
+    MinusZero,
+    /// A journal that is called full by f instead of k.
+    FullByF,
+    /// Children that count from 1.
+    ChildrenFromOne,
+    /// A tree of 65 steps that passes.
+    DepthSixtyFive,
+    /// Edges paired that run the same way.
+    SameWay,
+    /// Nodes counted, but not paths, so that a detached ring passes.
+    NodesNotPaths,
+    /// A nudge undone by subtraction, which loses -0.
+    UndoSubtracts,
+    /// A query that says it visited every node.
+    AllVisited,
+    /// A triangle that holds no point of its border.
+    BorderLeftOut,
+    /// Names that differ in letter case taken for different names.
+    CaseCounts,
+    /// A stopped put-back that answers k as handed in.
+    StoppedPutBack,
+    /// Work memory left as it was.
+    WorkKept,
+}
+
+/// All faults with the names by which they are asked for.
+pub const FAULTS: [(&str, Fault); 12] = [
+    ("minus-zero", Fault::MinusZero),
+    ("full-by-f", Fault::FullByF),
+    ("children-from-one", Fault::ChildrenFromOne),
+    ("depth-65", Fault::DepthSixtyFive),
+    ("same-way", Fault::SameWay),
+    ("nodes-not-paths", Fault::NodesNotPaths),
+    ("undo-subtracts", Fault::UndoSubtracts),
+    ("all-visited", Fault::AllVisited),
+    ("border-left-out", Fault::BorderLeftOut),
+    ("case-counts", Fault::CaseCounts),
+    ("stopped-put-back", Fault::StoppedPutBack),
+    ("work-kept", Fault::WorkKept),
+];
+
+thread_local! {
+    static PLANTED: Cell<Option<Fault>> = const { Cell::new(None) };
+}
+
+/// Plants a fault on this thread, or takes it away with `None`.
+pub fn plant(fault: Option<Fault>) {
+    PLANTED.with(|planted| planted.set(fault));
+}
+
+/// Whether this fault is planted on this thread.
+pub fn planted(fault: Fault) -> bool {
+    PLANTED.with(|planted| planted.get() == Some(fault))
+}
+
+/// The fault of that name.
+pub fn named(name: &str) -> Option<Fault> {
+    FAULTS
+        .iter()
+        .find(|(known, _)| *known == name)
+        .map(|(_, fault)| *fault)
+}

@@ -1,0 +1,308 @@
+//! One case of a comparison: a call with all that is lent to it, or a session of calls.
+
+use super::random::Random;
+use super::sessions::{self, Play};
+use super::texts::{self, Word};
+use super::{damage, floors, queries, text_damage};
+use crate::floor::WORK;
+use crate::{form, layout, sight};
+
+/// A call and its numbers. What an edit writes is handed over as 32 bits.
+#[derive(Clone, Copy, Debug)]
+#[rustfmt::skip]
+pub enum Call {
+    Read,
+    Rewrite,
+    Query { x: i32, y: i32 },
+    Edit { tag: u8, f: u32, k: u32, place: u32, to: u32 },
+    Undo { f: u32, k: u32 },
+    Redo { f: u32, k: u32 },
+    PutBack { f: u32, k: u32 },
+    LayoutRewrite,
+    LayoutRename { room: u32 },
+    SightRewrite,
+    SightRename { room: u32 },
+    SightRow { room: u32 },
+    LinkCheck,
+    Caption { room: u32 },
+}
+
+impl Call {
+    /// The same journal call with these f and k handed in.
+    pub fn with(mut self, session: (u32, u32)) -> Call {
+        if let Call::Edit { f, k, .. }
+        | Call::Undo { f, k }
+        | Call::Redo { f, k }
+        | Call::PutBack { f, k } = &mut self
+        {
+            (*f, *k) = session;
+        }
+        self
+    }
+}
+
+/// A lent slice and what it is called.
+pub type Lent = (&'static str, Vec<u8>);
+
+/// One call with all its slices, in the order of the exported call, or a session.
+#[derive(Clone, Debug)]
+pub enum Case {
+    One { call: Call, lent: Vec<Lent> },
+    Session(Play),
+}
+
+fn one<const N: usize>(call: Call, lent: [Lent; N]) -> Case {
+    Case::One {
+        call,
+        lent: lent.to_vec(),
+    }
+}
+
+/// Case number `number` of the run with this seed.
+pub fn case(seed: u64, number: u64) -> Case {
+    let mut random = Random::of_case(seed, number);
+    let random = &mut random;
+    match random.under(40) {
+        0..=11 => read(random),
+        12 | 13 => rewrite(random),
+        14..=18 => query(random),
+        19..=25 => Case::Session(sessions::play(random)),
+        26..=28 => layout_rewrite(random),
+        29 | 30 => layout_rename(random),
+        31 | 32 => sight_rewrite(random),
+        33 | 34 => sight_rename(random),
+        35 | 36 => sight_row(random),
+        37 | 38 => link_check(random),
+        _ => caption(random),
+    }
+}
+
+/// Work memory full of other bytes, now and then too little of it.
+fn work(random: &mut Random) -> Vec<u8> {
+    let length = match random.under(20) {
+        0 => random.pick(&[0, 1, WORK - 1, WORK - 1, 8_192]),
+        1..=4 => WORK + 1 + random.under(2_000),
+        _ => WORK,
+    };
+    random.bytes(length)
+}
+
+/// An output of the wanted length, or one less, or more, or nothing.
+fn out(random: &mut Random, wanted: usize) -> Vec<u8> {
+    let length = match random.under(10) {
+        0 => wanted.saturating_sub(1),
+        1 => 0,
+        2 => wanted + 1,
+        3 => wanted + random.under(100),
+        4 => random.under(wanted + 1),
+        _ => wanted,
+    };
+    random.bytes(length)
+}
+
+fn any_floor(random: &mut Random) -> Vec<u8> {
+    match random.under(10) {
+        0 | 1 => damage::good(random),
+        2 => damage::noise(random),
+        _ => damage::bad(random),
+    }
+}
+
+fn mostly_good_floor(random: &mut Random) -> Vec<u8> {
+    match random.once_in(8) {
+        true => any_floor(random),
+        false => damage::good(random),
+    }
+}
+
+fn read(random: &mut Random) -> Case {
+    let floor = any_floor(random);
+    one(Call::Read, [("floor", floor), ("work", work(random))])
+}
+
+fn rewrite(random: &mut Random) -> Case {
+    let floor = mostly_good_floor(random);
+    let mut space = vec![0; floor.len() + 16];
+    let wanted = form::rewrite(&floor, &mut vec![0; WORK], &mut space).length;
+    let work = work(random);
+    let out = out(random, wanted as usize);
+    one(
+        Call::Rewrite,
+        [("floor", floor), ("work", work), ("out", out)],
+    )
+}
+
+fn query(random: &mut Random) -> Case {
+    let (mut floor, [x, y]) = queries::floor_and_point(random);
+    if random.once_in(12) {
+        floor = any_floor(random);
+    }
+    let call = Call::Query { x, y };
+    one(call, [("floor", floor), ("work", work(random))])
+}
+
+/// A text from a plan: spaced out, and damaged or filled up if wanted.
+fn text_of(random: &mut Random, mut plan: texts::Plan, damaged: bool) -> Vec<u8> {
+    let by_bytes = random.once_in(3);
+    if damaged && !by_bytes {
+        text_damage::plan(random, &mut plan);
+    }
+    let mut text = texts::spaced(random, &plan);
+    if damaged && by_bytes {
+        text_damage::bytes(random, &mut text);
+    }
+    if random.once_in(30) {
+        texts::fill_up(random, &mut text);
+    }
+    text
+}
+
+fn layout_text(random: &mut Random, rooms: &[Word], damaged: bool) -> Vec<u8> {
+    if damaged && random.once_in(40) {
+        let length = random.under(60);
+        return random.bytes(length);
+    }
+    let plan = texts::layout(random, rooms);
+    text_of(random, plan, damaged)
+}
+
+fn layout_rewrite(random: &mut Random) -> Case {
+    let rooms = texts::rooms(random);
+    let damaged = !random.once_in(4);
+    let text = layout_text(random, &rooms, damaged);
+    let wanted = layout::rewrite(&text, &mut vec![0; 20_000]).length;
+    let out = out(random, wanted as usize);
+    one(Call::LayoutRewrite, [("text", text), ("out", out)])
+}
+
+/// A typed name: new, a room's own or another's, or wrong.
+fn typed(random: &mut Random, rooms: &[Word]) -> Word {
+    match random.under(6) {
+        0 if !rooms.is_empty() => {
+            let name = rooms[random.under(rooms.len())].clone();
+            texts::recased(random, &name)
+        }
+        1 => random
+            .pick(&[
+                "",
+                "a_very_long_name1",
+                "a b",
+                "a-b",
+                "1.5",
+                "h\u{e4}ll",
+                "a\n",
+                "\0",
+            ])
+            .as_bytes()
+            .to_vec(),
+        2 => b"exactly_16_chars"[..1 + random.under(16)].to_vec(),
+        _ => texts::name(random),
+    }
+}
+
+/// A room's number, now and then just or far outside.
+fn room(random: &mut Random, rooms: &[Word]) -> u32 {
+    match random.under(10) {
+        0 => rooms.len() as u32,
+        1 => random.odd_word(),
+        _ => random.under(rooms.len()) as u32,
+    }
+}
+
+fn layout_rename(random: &mut Random) -> Case {
+    let rooms = texts::rooms(random);
+    let damaged = random.once_in(6);
+    let text = layout_text(random, &rooms, damaged);
+    let (room, name) = (room(random, &rooms), typed(random, &rooms));
+    let wanted = layout::rename(&text, room, &name, &mut vec![0; 20_000]).length;
+    let out = out(random, wanted as usize);
+    let call = Call::LayoutRename { room };
+    one(call, [("text", text), ("name", name), ("out", out)])
+}
+
+/// A layout and a sight text over it.
+fn both_texts(random: &mut Random, damage: usize) -> (Vec<Word>, Vec<u8>, Vec<u8>) {
+    if random.once_in(15) {
+        let (rooms, plan) = texts::dense(random);
+        let layout = layout_text(random, &rooms, false);
+        return (rooms, layout, texts::plain(&plan));
+    }
+    let rooms = texts::rooms(random);
+    let spoilt = random.once_in(damage * 4);
+    let layout = layout_text(random, &rooms, spoilt);
+    let plan = texts::sight(random, &rooms);
+    let damaged = random.once_in(damage);
+    let vis = text_of(random, plan, damaged);
+    (rooms, layout, vis)
+}
+
+fn sight_rewrite(random: &mut Random) -> Case {
+    let (_, layout, vis) = both_texts(random, 2);
+    let wanted = sight::rewrite(&layout, &vis, &mut vec![0; 66_000]).length;
+    let out = out(random, if wanted == 0 { 66_000 } else { wanted as usize });
+    one(
+        Call::SightRewrite,
+        [("layout", layout), ("vis", vis), ("out", out)],
+    )
+}
+
+fn sight_rename(random: &mut Random) -> Case {
+    let (rooms, layout, vis) = both_texts(random, 6);
+    let (room, name) = match rooms.len() == 64 && random.once_in(2) {
+        true => (
+            random.from_to(62, 63) as u32,
+            vec![b'n'; 1 + random.under(16)],
+        ),
+        false => (room(random, &rooms), typed(random, &rooms)),
+    };
+    let wanted = sight::rename(&layout, &vis, room, &name, &mut vec![0; 66_000]).length;
+    let out = out(random, if wanted == 0 { 66_000 } else { wanted as usize });
+    let call = Call::SightRename { room };
+    one(
+        call,
+        [
+            ("layout", layout),
+            ("vis", vis),
+            ("name", name),
+            ("out", out),
+        ],
+    )
+}
+
+fn sight_row(random: &mut Random) -> Case {
+    let (rooms, layout, vis) = both_texts(random, 2);
+    let room = room(random, &rooms);
+    one(Call::SightRow { room }, [("layout", layout), ("vis", vis)])
+}
+
+/// A floor and a layout with any number of rooms, often just enough for its transitions.
+fn link_check(random: &mut Random) -> Case {
+    let rooms = match random.once_in(2) {
+        true => random.pick(&[0, 1, 2, 3, 5, 6, 62, 63, 64]),
+        false => 64,
+    };
+    let mut floor = mostly_good_floor(random);
+    if random.once_in(2) {
+        let wish = floors::any_wish(random);
+        floor = floors::floor(random, wish).in_order();
+    }
+    let rooms = texts::names(random, rooms);
+    let damaged = random.once_in(6);
+    let layout = layout_text(random, &rooms, damaged);
+    let work = work(random);
+    one(
+        Call::LinkCheck,
+        [("floor", floor), ("work", work), ("layout", layout)],
+    )
+}
+
+fn caption(random: &mut Random) -> Case {
+    let (visitor, house) = (texts::rooms(random), texts::rooms(random));
+    let damaged = [random.once_in(2), random.once_in(3)];
+    let rooms = if random.once_in(2) { &visitor } else { &house };
+    let room = room(random, rooms);
+    let visitor = layout_text(random, &visitor, damaged[0]);
+    let house = layout_text(random, &house, damaged[1]);
+    let call = Call::Caption { room };
+    one(call, [("visitor", visitor), ("house", house)])
+}

@@ -1,0 +1,431 @@
+//! Damage to valid floors, aimed at each of the rules 1 to 19. One floor may be damaged twice or
+//! three times, so that the order of the rules is tried too.
+
+use super::floors::{self, any_wish, Wish};
+use super::model::Model;
+use super::random::Random;
+use crate::floor::mesh::walkable;
+use crate::floor::tables::{FIELDS, HEADER, LONGEST};
+use crate::words::{put_word, word_at};
+
+const NONE: u32 = 0xFFFF_FFFF;
+
+/// A valid floor, laid out in either way.
+pub fn good(random: &mut Random) -> Vec<u8> {
+    let model = any_model(random);
+    model.bytes(random)
+}
+
+/// A valid floor as lists; now and then a chain as deep as the rule allows.
+fn any_model(random: &mut Random) -> Model {
+    if random.once_in(60) {
+        return floors::chain(random, 65);
+    }
+    if random.once_in(300) {
+        return large_model(random);
+    }
+    let wish = any_wish(random);
+    floors::floor(random, wish)
+}
+
+fn large_model(random: &mut Random) -> Model {
+    match random.under(3) {
+        0 => floors::large(random, 64, 32),
+        1 => floors::crowded(random, 4_096),
+        _ => floors::crowded(random, 500),
+    }
+}
+
+/// A floor with some faces, so that there is something to damage; now and then as many as allowed.
+fn some_model(random: &mut Random) -> Model {
+    if random.once_in(300) {
+        return large_model(random);
+    }
+    let wish = any_wish(random);
+    let wish = Wish {
+        columns: wish.columns.max(1),
+        rows: wish.rows.max(2),
+        ..wish
+    };
+    floors::floor(random, wish)
+}
+
+/// A floor damaged at one to three places, aimed at any rules, the later ones more often.
+pub fn bad(random: &mut Random) -> Vec<u8> {
+    let mut model = match random.once_in(8) {
+        true => any_model(random),
+        false => some_model(random),
+    };
+    let times = random.pick(&[1, 1, 1, 1, 2, 2, 3]);
+    let aim = |random: &mut Random| match random.once_in(6) {
+        true => random.from_to(1, 6) as u32,
+        false => random.from_to(7, 19) as u32,
+    };
+    let mut aims: Vec<u32> = (0..times).map(|_| aim(random)).collect();
+    aims.sort_by(|one, other| other.cmp(one)); // the length last: the others need the header
+    aims.dedup();
+    for aim in aims.iter().filter(|aim| **aim >= 8) {
+        damage_model(&mut model, random, *aim);
+    }
+    let mut bytes = model.bytes(random);
+    for aim in aims.iter().filter(|aim| **aim < 8) {
+        damage_bytes(&mut bytes, random, *aim);
+    }
+    bytes
+}
+
+/// Bytes that are no floor at all, or a floor with some bytes changed anywhere.
+pub fn noise(random: &mut Random) -> Vec<u8> {
+    if random.once_in(4) {
+        let length = random.pick(&[0, 1, 135, 136, 137, 200, 300]);
+        return random.bytes(length);
+    }
+    let mut bytes = good(random);
+    for _ in 0..random.from_to(1, 6) {
+        let within = if random.once_in(2) {
+            HEADER
+        } else {
+            bytes.len()
+        };
+        let at = random.under(within);
+        bytes[at] = match random.under(3) {
+            0 => random.byte(),
+            1 => bytes[at].wrapping_add(1),
+            _ => bytes[at] ^ (1 << random.under(8)),
+        };
+    }
+    bytes
+}
+
+fn damage_bytes(bytes: &mut Vec<u8>, random: &mut Random, aim: u32) {
+    match aim {
+        1 => wrong_length(bytes, random),
+        2 => bytes[random.under(8)] ^= 1 << random.under(8),
+        3 => put_word(bytes, 8, random.pick(&[0, 2, 256, 0x0100_0000, NONE])),
+        4 => (0..random.from_to(1, 2)).for_each(|_| large_count(bytes, random)),
+        5 => offset_outside(bytes, random),
+        6 => offset_shared(bytes, random),
+        _ => (0..random.from_to(1, 3)).for_each(|_| not_finite(bytes, random)),
+    }
+}
+
+fn wrong_length(bytes: &mut Vec<u8>, random: &mut Random) {
+    match random.under(40) {
+        0 => bytes.resize(LONGEST, random.byte()), // still right
+        1 => bytes.resize(LONGEST + 1, random.byte()),
+        2..=9 => bytes.truncate(135),
+        10..=19 => bytes.truncate(random.under(136)),
+        _ => bytes.truncate(random.under(bytes.len()).max(HEADER)), // rule 5 for most
+    }
+}
+
+fn large_count(bytes: &mut [u8], random: &mut Random) {
+    let field = random.pick(&[72, 80, 100, 112, 120, 128]);
+    let limit = match field {
+        72 | 80 => 4_096,
+        100 => 8_191,
+        112 => word_at(bytes, 80),
+        _ => 12_288,
+    };
+    let over = random.pick(&[1, 1, 1, 2, 70_000]);
+    let count = if random.once_in(6) {
+        NONE
+    } else {
+        limit.wrapping_add(over)
+    };
+    put_word(bytes, field, count);
+}
+
+fn offset_outside(bytes: &mut [u8], random: &mut Random) {
+    let fields = &FIELDS[random.under(9)];
+    let size = word_at(bytes, fields.count).wrapping_mul(fields.size as u32);
+    let last = (bytes.len() as u32).wrapping_sub(size);
+    let start = match random.under(5) {
+        0 => last, // just inside
+        1 => last.wrapping_add(1),
+        2 => random.under(HEADER) as u32,
+        3 => 135,
+        _ => random.odd_word(),
+    };
+    put_word(bytes, fields.offset, start);
+}
+
+/// Moves a table onto another, or by a few bytes to either side.
+fn offset_shared(bytes: &mut [u8], random: &mut Random) {
+    let fields = &FIELDS[random.under(9)];
+    let other = &FIELDS[random.under(9)];
+    let start = match random.under(3) {
+        0 => word_at(bytes, other.offset),
+        1 => {
+            let size = word_at(bytes, other.count).wrapping_mul(other.size as u32);
+            let within = random.under(size as usize) as u32;
+            word_at(bytes, other.offset).wrapping_add(within)
+        }
+        _ => {
+            let by = random.pick(&[1, 2, 4, NONE, NONE - 3]);
+            word_at(bytes, fields.offset).wrapping_add(by)
+        }
+    };
+    put_word(bytes, fields.offset, start);
+}
+
+fn not_finite(bytes: &mut [u8], random: &mut Random) {
+    let table = random.pick(&[0, 3, 4, 5, 5, 9]);
+    let at = match table {
+        9 => 12 + 4 * random.under(15),
+        _ => {
+            let fields = &FIELDS[table];
+            let floats = random.under(if table == 5 { 6 } else { fields.size / 4 });
+            let entry = random.under(word_at(bytes, fields.count) as usize);
+            (word_at(bytes, fields.offset) as usize)
+                .saturating_add(entry.wrapping_mul(fields.size))
+                .saturating_add(4 * floats)
+        }
+    };
+    if at.saturating_add(4) <= bytes.len() {
+        let bits = random.pick(&[0x7F80_0000, 0xFF80_0000, 0x7FC0_0000, 0x7F80_0001, NONE]);
+        put_word(bytes, at, bits);
+    }
+}
+
+fn damage_model(model: &mut Model, random: &mut Random, aim: u32) {
+    if model.faces.is_empty() {
+        model.root = random.pick(&[0, 1, NONE]); // 11 at 108, also without faces
+        return;
+    }
+    match aim {
+        8 => wrong_corner(model, random),
+        9 => *any(&mut model.materials, random) = random.pick(&[23, 24, 255, 256, NONE]),
+        10 => wrong_walkability(model, random),
+        11 => wrong_node_count(model, random),
+        12 => wrong_node(model, random),
+        13 => wrong_tree(model, random),
+        14 => small_box(model, random),
+        15 => same_run(model, random),
+        16 => wrong_adjacency(model, random),
+        17 => wrong_edge(model, random),
+        18 => wrong_transition(model, random),
+        _ => wrong_perimeter(model, random),
+    }
+}
+
+/// Any item of a list that is not empty.
+fn any<'a, T>(items: &'a mut [T], random: &mut Random) -> &'a mut T {
+    let index = random.under(items.len());
+    &mut items[index]
+}
+
+fn wrong_corner(model: &mut Model, random: &mut Random) {
+    let vertices = model.vertices.len() as u32;
+    let face = any(&mut model.faces, random);
+    let corner = random.under(3);
+    face[corner] = match random.under(4) {
+        0 => vertices,
+        1 => random.odd_word(),
+        _ => face[(corner + 1 + random.under(2)) % 3],
+    };
+}
+
+fn wrong_walkability(model: &mut Model, random: &mut Random) {
+    match random.under(4) {
+        0 => drop(model.adjacency.pop()),
+        1 if model.adjacency.len() < model.faces.len() => model.adjacency.push([NONE; 3]),
+        _ => {
+            let material = any(&mut model.materials, random);
+            let now = walkable(*material);
+            while walkable(*material) == now {
+                *material = random.under(23) as u32;
+            }
+        }
+    }
+}
+
+fn wrong_node_count(model: &mut Model, random: &mut Random) {
+    match random.under(6) {
+        0 => drop(model.nodes.pop()),
+        1 => model.nodes.push(model.nodes[0]),
+        2 => model.nodes.clear(),
+        3 => model.root = model.nodes.len() as u32,
+        _ => model.root = random.pick(&[1, 2, NONE]),
+    }
+}
+
+fn wrong_node(model: &mut Model, random: &mut Random) {
+    let (faces, nodes) = (model.faces.len() as u32, model.nodes.len() as u32);
+    if nodes == 0 {
+        return;
+    }
+    let node = any(&mut model.nodes, random);
+    let field = random.pick(&[6, 8, 9, 10]);
+    node[field] = match random.under(6) {
+        0 => faces,
+        1 => nodes,
+        2 => NONE,
+        3 => random.pick(&[0, 1, 2, 3, 4, 0xFFFF_FFFC, 0xFFFF_FFFD]),
+        4 => node[field].wrapping_add(1), // children from 1
+        _ => random.odd_word(),
+    };
+}
+
+fn wrong_tree(model: &mut Model, random: &mut Random) {
+    let inner: Vec<usize> = (0..model.nodes.len())
+        .filter(|&node| model.nodes[node][6] == NONE)
+        .collect();
+    let leaves: Vec<usize> = (0..model.nodes.len())
+        .filter(|&node| model.nodes[node][6] != NONE)
+        .collect();
+    if inner.is_empty() || leaves.is_empty() {
+        return;
+    }
+    let node = random.pick(&inner);
+    let side = random.pick(&[9, 10]);
+    match random.under(8) {
+        0 => model.nodes[node][9] = model.nodes[node][10],
+        1 => model.nodes[node][side] = random.under(model.nodes.len()) as u32,
+        2 => model.nodes[random.pick(&leaves)][6] = random.under(model.faces.len()) as u32,
+        3 => swap_children(model, [node, random.pick(&inner)], side),
+        4 => *model = floors::chain(random, 66),
+        5 => {
+            let faces = random.pick(&[67, 70, 100]);
+            *model = floors::chain(random, faces);
+        }
+        _ => detach_ring(model, random, &inner),
+    }
+}
+
+fn swap_children(model: &mut Model, [one, other]: [usize; 2], side: usize) {
+    let child = model.nodes[one][side];
+    model.nodes[one][side] = model.nodes[other][9];
+    model.nodes[other][9] = child;
+}
+
+/// Cuts an inner node out of the tree and makes it its own child. Each node is still the child of
+/// one node, but the ring cannot be reached.
+fn detach_ring(model: &mut Model, random: &mut Random, inner: &[usize]) {
+    for _ in 0..8 {
+        let above = random.pick(inner);
+        let side = random.pick(&[9, 10]);
+        let cut = model.nodes[above][side] as usize;
+        if model.nodes.get(cut).is_some_and(|node| node[6] == NONE) {
+            let below = random.pick(&[9, 10]);
+            model.nodes[above][side] = model.nodes[cut][below];
+            model.nodes[cut][below] = cut as u32;
+            return;
+        }
+    }
+}
+
+/// Draws a side of a box in: by the least step a float can make, or by more.
+fn small_box(model: &mut Model, random: &mut Random) {
+    if model.nodes.is_empty() {
+        return;
+    }
+    let node = any(&mut model.nodes, random);
+    let side = random.under(6);
+    let value = f32::from_bits(node[side]);
+    let inwards = if side < 3 { 1.0 } else { -1.0 };
+    let drawn = match random.under(3) {
+        0 => value + inwards * 0.015_625,
+        1 => value + inwards * 5.0,
+        _ if inwards > 0.0 => value.next_up(),
+        _ => value.next_down(),
+    };
+    if drawn.is_finite() {
+        node[side] = drawn.to_bits();
+    }
+}
+
+/// Makes two walkable half-edges run the same way, without harm to any box.
+fn same_run(model: &mut Model, random: &mut Random) {
+    let walkable = model.adjacency.len();
+    if walkable == 0 {
+        return;
+    }
+    let face = random.under(walkable);
+    if random.once_in(2) {
+        model.faces[face].swap(0, 1);
+        return;
+    }
+    let mut copied = model.faces[random.under(walkable)];
+    copied.rotate_left(random.under(3));
+    model.faces[face] = copied;
+    for node in &mut model.nodes {
+        node[..3].fill((-3.0e38_f32).to_bits());
+        node[3..6].fill(3.0e38_f32.to_bits());
+    }
+}
+
+fn wrong_adjacency(model: &mut Model, random: &mut Random) {
+    let half_edges = 3 * model.adjacency.len();
+    if half_edges == 0 {
+        return;
+    }
+    let entry = &mut any(&mut model.adjacency, random)[random.under(3)];
+    *entry = match random.under(5) {
+        0 => NONE,
+        1 => random.under(half_edges) as u32,
+        2 => entry.wrapping_add(1),
+        3 => entry.wrapping_sub(1),
+        _ => random.odd_word(),
+    };
+}
+
+fn wrong_edge(model: &mut Model, random: &mut Random) {
+    if model.edges.is_empty() {
+        model.edges.push([random.pick(&[0, 1, NONE]), NONE]);
+        return;
+    }
+    let half_edges = 3 * model.faces.len();
+    let earlier = model.edges[random.under(model.edges.len())][0];
+    match random.under(6) {
+        0 => drop(model.edges.pop()),
+        1 => model.edges.push([random.under(half_edges) as u32, NONE]),
+        2 => any(&mut model.edges, random)[0] = random.under(half_edges) as u32,
+        3 => any(&mut model.edges, random)[0] = 3 * model.adjacency.len() as u32,
+        4 => any(&mut model.edges, random)[0] = random.odd_word(),
+        _ => any(&mut model.edges, random)[0] = earlier,
+    }
+}
+
+fn wrong_transition(model: &mut Model, random: &mut Random) {
+    if model.edges.is_empty() {
+        return;
+    }
+    let wrong = random.pick(&[64, 65, 255, NONE - 1, 0x7FFF_FFFF, 0x8000_0000, 0x0000_FFFF]);
+    any(&mut model.edges, random)[1] = wrong;
+}
+
+fn wrong_perimeter(model: &mut Model, random: &mut Random) {
+    let edges = model.edges.len();
+    let last = model.perimeters.last().copied().unwrap_or(0);
+    if edges < 2 || model.perimeters.is_empty() {
+        model.perimeters.push(random.pick(&[0, 1, last, last + 1]));
+        return;
+    }
+    match random.under(10) {
+        0 => drop(model.perimeters.pop()),
+        1 => model.perimeters.push(last),
+        2 => model.perimeters.push(last + 1),
+        3 => model.perimeters.insert(0, 0),
+        4 => model.perimeters.reverse(),
+        5 => *any(&mut model.perimeters, random) = random.odd_word(),
+        6 => *any(&mut model.perimeters, random) += 1,
+        7 => *any(&mut model.perimeters, random) -= 1,
+        8 => split_loop(model, random),
+        _ => model.edges.swap(random.under(edges), random.under(edges)),
+    }
+}
+
+/// Ends a loop early, where it may or may not have come back to its start; or joins two loops.
+fn split_loop(model: &mut Model, random: &mut Random) {
+    if random.once_in(2) && model.perimeters.len() > 1 {
+        model
+            .perimeters
+            .remove(random.under(model.perimeters.len() - 1));
+        return;
+    }
+    let end = 1 + random.under(model.edges.len()) as u32;
+    if let Err(at) = model.perimeters.binary_search(&end) {
+        model.perimeters.insert(at, end);
+    }
+}

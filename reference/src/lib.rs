@@ -1,0 +1,19 @@
+//! Document 01 once more, written from the paper alone: floors, queries, journals, layouts and sight.
+//! It favours plain data and visible rules over speed, so that it can judge another implementation.
+
+pub mod answer;
+pub mod calls;
+pub mod caption;
+pub mod compare;
+pub mod fault;
+pub mod floor;
+pub mod form;
+pub mod generate;
+pub mod grid;
+pub mod journal;
+pub mod layout;
+pub mod links;
+pub mod query;
+pub mod sight;
+pub mod text;
+pub mod words;

@@ -1,0 +1,137 @@
+//! The generator and the comparison themselves: valid floors are accepted, every refusal occurs,
+//! forms read back, and every planted fault is noticed.
+
+mod common;
+
+use common::*;
+use reference::calls::{OTHER, REFERENCE};
+use reference::compare::{compare, Side};
+use reference::fault::FAULTS;
+use reference::floor;
+use reference::form;
+use reference::generate::cases::{case, Call, Case};
+use reference::generate::floors::{any_wish, crowded, floor as make, large};
+use reference::generate::random::Random;
+use reference::generate::texts;
+use reference::{layout, sight};
+
+const HONEST: Side = Side {
+    calls: REFERENCE,
+    fault: None,
+};
+
+#[test]
+fn generated_floors_are_accepted_and_their_forms_too() {
+    let mut random = Random::new(11);
+    for _ in 0..400 {
+        let wish = any_wish(&mut random);
+        let model = make(&mut random, wish);
+        let bytes = model.scattered(&mut random);
+        let counts = read(&bytes);
+        assert_eq!(counts.number, 0);
+        assert_eq!(counts.faces as usize, model.faces.len());
+        let (answer, once) = rewritten(&bytes);
+        assert_eq!(answer.number, 0);
+        assert_eq!(once, model.in_order());
+        assert_eq!(rewritten(&once).1, once);
+        assert_eq!(read(&once), counts);
+    }
+}
+
+#[test]
+fn generated_texts_are_accepted_and_their_forms_read_back() {
+    let mut random = Random::new(12);
+    for _ in 0..400 {
+        let rooms = texts::rooms(&mut random);
+        let plan = texts::layout(&mut random, &rooms);
+        let text = texts::spaced(&mut random, &plan);
+        let read = layout::read(&text).expect("a valid layout");
+        let form = layout::fixed(&read);
+        let again = layout::read(&form).expect("a form reads back");
+        assert_eq!(layout::fixed(&again), form);
+        let plan = texts::sight(&mut random, &rooms);
+        let vis = texts::spaced(&mut random, &plan);
+        let rows = sight::read(&read, &vis).expect("a valid sight text");
+        assert_eq!(sight::read(&again, &sight::fixed(&read, &rows)), Ok(rows));
+    }
+}
+
+#[test]
+fn a_large_floor_is_accepted() {
+    let counts = read(&large(&mut Random::new(1), 64, 32).in_order());
+    assert_eq!((counts.number, counts.faces), (0, 4_096));
+    let counts = read(&crowded(&mut Random::new(6), 4_096).in_order());
+    assert_eq!((counts.number, counts.faces), (0, 4_096));
+    assert_eq!(counts.edges, 3 * counts.walkable);
+}
+
+#[test]
+fn every_refusal_occurs() {
+    let there = Side {
+        calls: OTHER,
+        fault: None,
+    };
+    let tally = compare(
+        12_000,
+        2,
+        [&HONEST, &there],
+        |_| (),
+        |number, found| panic!("case {number}: {found:?}"),
+    );
+    for number in 0..=42 {
+        assert!(
+            tally.answered(number) >= 20,
+            "{number}: {}",
+            tally.answered(number)
+        );
+    }
+}
+
+#[test]
+fn every_planted_fault_is_noticed() {
+    for (name, fault) in FAULTS {
+        let planted = Side {
+            calls: REFERENCE,
+            fault: Some(fault),
+        };
+        let tally = compare(
+            6_000,
+            3,
+            [&planted, &HONEST],
+            |_| (),
+            |_, found| {
+                assert!(!found.is_empty());
+            },
+        );
+        assert!(tally.different > 0, "{name} was not noticed");
+    }
+}
+
+#[test]
+fn a_case_is_the_same_each_time() {
+    for number in 0..200 {
+        let [one, other] = [0, 1].map(|_| format!("{:?}", case(9, number)));
+        assert_eq!(one, other);
+    }
+}
+
+#[test]
+fn outputs_of_the_exact_size_and_one_less_occur() {
+    let (mut exact, mut less) = (0, 0);
+    for number in 0..2_000 {
+        if let Case::One {
+            call: Call::Rewrite,
+            lent,
+        } = case(4, number)
+        {
+            let [(_, floor), _, (_, out)] = &lent[..] else {
+                panic!("a rewrite is lent three slices");
+            };
+            let mut space = vec![0; 1_000_000];
+            let wanted = form::rewrite(floor, &mut vec![0; floor::WORK], &mut space).length;
+            exact += usize::from(wanted as usize == out.len());
+            less += usize::from(wanted as usize == out.len() + 1);
+        }
+    }
+    assert!(exact > 20 && less > 5, "{exact} {less}");
+}
