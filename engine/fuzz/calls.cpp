@@ -237,6 +237,10 @@ struct Game {
         const wp_session answer = call(first.data, first.length, second.data, second.length, f, k, place, value);
         judge(answer, answer.place, 21, 28);
         require(answer.number <= 6 || answer.number >= 21, "a reader's refusal past 6");
+        numbers_fit(answer);
+        const bool full = k == WP_RECORDS || std::uint64_t{WP_RECORD} * (k + std::uint64_t{1}) > second.length;
+        require(answer.number != 25 || full, "a journal called full that is not");
+        require(answer.number != 0 || !full, "an edit into a full journal");
         end({&third, &work, &out});
         if (answer.number != 0) {
             require(answer.f == f && answer.k == k, "f and k changed on refusal");
@@ -244,14 +248,15 @@ struct Game {
             first.kept();
             return second.kept();
         }
-        require(k <= f && f <= WP_RECORDS && answer.k == k + 1 && answer.f == k + 1, "f and k are not k+1");
+        require(answer.f == k + 1 && answer.k == k + 1, "f and k are not k+1");
         const Owned floor = first.after(), journal = second.after();
         const std::size_t at = std::size_t{WP_RECORD} * k;
-        require(at + WP_RECORD <= second.length, "a record past the journal");
         Owned wanted = second.before;
         std::copy_n(journal.data() + at, WP_RECORD, wanted.data() + at);
         require(journal == wanted, "more than a record was written");
         require(journal[at] == now - 2 && journal[at + 1] == 12 && journal[at + 2] == 0, "a record's tag or length");
+        const bool minus_zero = journal[at + 14] == 0x80 && std::count(&journal[at + 11], &journal[at + 14], 0) == 3;
+        require(now != 5 || !minus_zero, "a nudge to minus zero");
         std::size_t from = 0, to = floor.size();
         while (from < to && floor[from] == first.before[from]) ++from;
         while (from < to && floor[to - 1] == first.before[to - 1]) --to;
@@ -271,6 +276,12 @@ struct Game {
         const wp_session back = wp_put_back(first.data, first.length, second.data, second.length, 1, 1);
         require(back.number == 0 && back.f == 0 && back.k == 0, "the put-back stopped");
         first.kept();
+    }
+
+    // 28 exactly if f and k do not fit, once the floor's header is right.
+    void numbers_fit(const wp_session& answer) const {
+        const bool fit = k <= f && f <= WP_RECORDS && std::uint64_t{WP_RECORD} * f <= second.length;
+        require(answer.number == 28 ? !fit : fit || (answer.number > 0 && answer.number <= 6), "28 and f, k");
     }
 
     template <class Call>
@@ -301,6 +312,7 @@ struct Game {
 
     void stepped(const wp_session& answer) const {
         judge(answer, answer.place, 26, 28);
+        numbers_fit(answer);
         require(answer.number <= 6 || (answer.number >= 26 && answer.place == answer.k), "not the cursor as place");
         end({&second, &third, &work, &out});
     }

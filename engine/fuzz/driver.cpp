@@ -1,5 +1,5 @@
-// driver.cpp: plays the fuzz target where there is no libFuzzer: driver SECONDS SEED FILES.. changes the given inputs at
-// random until the time is over. It has no coverage to go by, so it stays near its first inputs.
+// driver.cpp: plays the fuzz target where there is no libFuzzer: fuzz SECONDS SEED FILES.. changes the given inputs at
+// random until the time is over, having played each as it is. It has no coverage to go by, so it stays near them.
 #include <chrono>
 #include <cstdint>
 #include <cstdio>
@@ -19,20 +19,21 @@ std::mt19937_64 random_bits;
 
 std::size_t under(std::size_t limit) { return limit == 0 ? 0 : random_bits() % limit; }
 
-// A few changes: a byte, a word among those that rules turn on, a piece moved, a piece cut off.
+void put(Input& input, std::size_t at, std::uint32_t word) {
+    for (int i = 0; i < 4 && at < input.size(); ++i, ++at) input[at] = static_cast<std::uint8_t>(word >> 8 * i);
+}
+
+// A few changes: a byte, a bit, a word among those that rules turn on, a byte from elsewhere, the end cut off.
 void change(Input& input) {
-    static const std::uint32_t turning[] = {0,  1,  2,   3,   4,    12,   15,   22,   23,         63,         64,        135,
-                                            136, 640, 641, 4096, 4097, 8191, 8192, 12288, 0x3F800000, 0x7F800000, 0x80000000, 0xFFFFFFFF};
+    static const std::uint32_t turning[] = {0,    1,    2,    3,    4,     12,         15,         22,
+                                            23,   63,   64,   135,  136,   640,        641,        4096,
+                                            4097, 8191, 8192, 8193, 12288, 0x7F800000, 0x80000000, 0xFFFFFFFF};
     for (std::size_t times = 1 + under(4); times != 0 && !input.empty(); --times) {
         const std::size_t at = under(input.size());
         switch (under(5)) {
             case 0: input[at] = static_cast<std::uint8_t>(random_bits()); break;
             case 1: input[at] ^= static_cast<std::uint8_t>(1u << under(8)); break;
-            case 2: {
-                const std::uint32_t word = turning[under(std::size(turning))];
-                for (std::size_t i = 0; i < 4 && at + i < input.size(); ++i) input[at + i] = static_cast<std::uint8_t>(word >> 8 * i);
-                break;
-            }
+            case 2: put(input, at, turning[under(std::size(turning))]); break;
             case 3: input[under(input.size())] = input[at]; break;
             default:
                 if (under(8) == 0) input.resize(at);
@@ -43,7 +44,7 @@ void change(Input& input) {
 }  // namespace
 
 int main(int count, char** given) {
-    if (count < 4) return std::fprintf(stderr, "driver SECONDS SEED FILES..\n"), 2;
+    if (count < 4) return std::fprintf(stderr, "fuzz SECONDS SEED FILES..\n"), 2;
     std::vector<Input> first;
     for (int i = 3; i < count; ++i) {
         std::ifstream file(given[i], std::ios::binary);
