@@ -1,0 +1,325 @@
+// morning.cpp: plays a bench's morning from a script and says in words what each call answered.
+//
+//     morning SCRIPT FLOORS
+//
+// FLOORS is the folder of the floors; texts stand beside the script. A script has one command on each line, words
+// parted by blanks; a line that starts with # is a remark, and blank lines are skipped. Commands:
+//
+//     visitor NAME          a visitor comes
+//     open FLOOR [RECORDS]  the bench opens a floor, with a journal for so many edits (4096)
+//     paint FACE MATERIAL   link ENTRY ROOM   nudge PLACE STEP   undo   redo   putback
+//     query X Y             which face holds the point, in sixty-fourths
+//     rewrite               the floor in fixed form, whether that has the same counts and is its own fixed form
+//     house FILE            the house's layout, for captions and the link check
+//     plan FILE             the visitor's layout        sight FILE   what its rooms see
+//     show                  both of them in fixed form
+//     rename ROOM NAME      a room of the visitor's layout and sight is named anew
+//     caption ROOM   row ROOM   linkcheck
+//     powercut PART BYTE VALUE  the visit is broken off, a byte of its saved floor or journal turns into VALUE, and the
+//                               visit goes on from what was saved
+//     leave                 the visitor goes: the floor is put back
+//     repair PART BYTE VALUE    after a put-back that stopped: the byte is set right and the rest is put back
+//
+// The floors are kept for the whole morning: the next visitor finds what the last one left. The morning fails (1) if
+// any floor is not what it was at the start, byte for byte; a script that cannot be played ends it at once (2).
+#include "../wingpollen.hpp"
+
+#include <cstdlib>
+#include <fstream>
+#include <functional>
+#include <iostream>
+#include <iterator>
+#include <map>
+#include <memory>
+#include <optional>
+#include <sstream>
+
+using namespace wingpollen;
+
+namespace {
+
+using Words = std::vector<std::string>;
+
+// Why the script cannot go on. Not an answer of the library: a mistake in the script or a missing file.
+[[noreturn]] void give_up(const std::string& why) {
+    std::cout << std::flush;
+    std::cerr << "morning: " << why << '\n';
+    std::exit(2);
+}
+
+std::string contents(const std::string& path) {
+    std::ifstream file(path, std::ios::binary);
+    if (!file) give_up("cannot read " + path);
+    return {std::istreambuf_iterator<char>(file), {}};
+}
+
+using Owned = std::vector<std::uint8_t>;
+Owned owned(Bytes bytes) { return {bytes.data, bytes.data + bytes.length}; }
+
+// A number of the script. The calls take 32 bits, of either sign, and check the rest themselves.
+std::int64_t number(const std::string& word) {
+    char* end = nullptr;
+    const long long value = std::strtoll(word.c_str(), &end, 10);
+    if (word.empty() || *end != '\0' || value < INT32_MIN || value > UINT32_MAX) give_up("no number: " + word);
+    return value;
+}
+std::uint32_t natural(const std::string& word) { return static_cast<std::uint32_t>(number(word)); }
+std::int32_t whole(const std::string& word) { return static_cast<std::int32_t>(number(word)); }
+
+std::string counted(std::uint64_t count, const std::string& one) {
+    return std::to_string(count) + ' ' + one + (count == 1 ? "" : "s");
+}
+
+// A refusal as the volunteer sees it: number, sentence, place.
+template <class Answered>
+std::string refused(const Answered& answer) {
+    std::ostringstream said;
+    said << "refused " << answer.number << ": " << words(refusal(answer));
+    if constexpr (!std::is_same_v<Answered, wp_caption_at>) {
+        const std::string_view place = place_words(refusal(answer));
+        const bool typed_name = place == "line" && answer.place == 0;
+        if (!place.empty() && !typed_name) said << " (" << place << ' ' << answer.place << ')';
+    }
+    return said.str();
+}
+
+class Morning : public Witness {
+public:
+    Morning(std::string texts, std::string floors) : texts_(std::move(texts)), floors_(std::move(floors)) {}
+
+    // Plays one line of the script.
+    void play(const std::string& line) {
+        std::istringstream split(line);
+        const Words said{std::istream_iterator<std::string>(split), {}};
+        if (said.empty() || said[0][0] == '#') return;
+        const auto found = commands().find(said[0]);
+        if (found == commands().end()) give_up("unknown command: " + line);
+        const auto& [least, most, needs_bench, command] = found->second;
+        if (said.size() - 1 < least || said.size() - 1 > most) give_up("wrong number of words: " + line);
+        if (needs_bench && !bench_) give_up("no floor is open: " + line);
+        std::cout << (said[0] == "visitor" ? "\n" : "") << line << ": ";
+        command(*this, said);
+        std::cout << '\n';
+    }
+
+    // The morning's end; true if every floor is what it was.
+    bool good_end() {
+        bench_.reset();
+        std::uint64_t same = 0;
+        for (const auto& [name, now] : gallery_) same += now == from_file(name);
+        std::cout << "\nThe morning is over: " << counted(gallery_.size(), "floor") << " opened, " << same
+                  << " as at the start, byte for byte.\n";
+        return same == gallery_.size();
+    }
+
+    // The visit has ended. A floor that is not put back is kept with its journal, for the repair.
+    void left(const wp_session& answer, Bytes floor, Bytes journal) noexcept override {
+        gallery_[at_] = owned(floor);
+        if (answer.number == 0) {
+            std::cout << "put back";
+        } else {
+            say(answer);
+            if (answer.k != 0) stopped_ = Saved{owned(floor), owned(journal), answer.f, answer.k};
+        }
+        const bool same = gallery_[at_] == opening_;
+        std::cout << (same ? "; byte for byte the opening floor" : "; NOT YET THE OPENING FLOOR");
+    }
+
+private:
+    struct Command {
+        std::size_t least, most;
+        bool needs_bench;
+        std::function<void(Morning&, const Words&)> command;
+    };
+
+    // Least and most words behind the command, whether a floor must be open, and what it does.
+    static const std::map<std::string, Command>& commands() {
+        using M = Morning;
+        using W = Words;
+        static const std::map<std::string, Command> all = {
+            {"visitor", {1, 1, false, [](M& m, const W& w) { m.visitor(w[1]); }}},
+            {"open", {1, 2, false, [](M& m, const W& w) { m.open(w[1], w.size() > 2 ? natural(w[2]) : WP_RECORDS); }}},
+            {"paint", {2, 2, true, [](M& m, const W& w) { say(m.bench_->paint(natural(w[1]), natural(w[2]))); }}},
+            {"link", {2, 2, true, [](M& m, const W& w) { say(m.bench_->link(natural(w[1]), whole(w[2]))); }}},
+            {"nudge", {2, 2, true, [](M& m, const W& w) { say(m.bench_->nudge(natural(w[1]), whole(w[2]))); }}},
+            {"undo", {0, 0, true, [](M& m, const W&) { say(m.bench_->undo()); }}},
+            {"redo", {0, 0, true, [](M& m, const W&) { say(m.bench_->redo()); }}},
+            {"putback", {0, 0, true, [](M& m, const W&) { say(m.bench_->put_back()); }}},
+            {"query", {2, 2, true, [](M& m, const W& w) { m.query(whole(w[1]), whole(w[2])); }}},
+            {"rewrite", {0, 0, true, [](M& m, const W&) { m.rewrite(); }}},
+            {"house", {1, 1, false, [](M& m, const W& w) { m.take(m.house_, w[1]); }}},
+            {"plan", {1, 1, false, [](M& m, const W& w) { m.take(m.plan_, w[1]); }}},
+            {"sight", {1, 1, false, [](M& m, const W& w) { m.take(m.sight_, w[1]); }}},
+            {"show", {0, 0, false, [](M& m, const W&) { m.show(); }}},
+            {"rename", {2, 2, false, [](M& m, const W& w) { m.rename(natural(w[1]), w[2]); }}},
+            {"caption", {1, 1, false, [](M& m, const W& w) { m.caption_of(natural(w[1])); }}},
+            {"row", {1, 1, false, [](M& m, const W& w) { m.row(natural(w[1])); }}},
+            {"linkcheck", {0, 0, true, [](M& m, const W&) { m.link_check(); }}},
+            {"powercut", {3, 3, true, [](M& m, const W& w) { m.power_cut(w); }}},
+            {"leave", {0, 0, true, [](M& m, const W&) { m.bench_.reset(); }}},
+            {"repair", {3, 3, false, [](M& m, const W& w) { m.repair(w); }}},
+        };
+        return all;
+    }
+
+    void visitor(const std::string& name) {
+        plan_.clear();
+        sight_.clear();
+        std::cout << "welcome, " << name;
+    }
+
+    void open(const std::string& name, std::uint32_t records) {
+        if (bench_ || stopped_) give_up("the last floor is not put back yet: " + at_);
+        at_ = name;
+        if (gallery_.count(name) == 0) gallery_[name] = from_file(name);
+        opening_ = gallery_[name];
+        bench_ = std::make_unique<Bench>(opening_, *this, records);
+        say_opened();
+    }
+
+    Owned from_file(const std::string& name) const { return owned(std::string_view(contents(floors_ + '/' + name))); }
+
+    void say_opened() const {
+        const wp_floor& floor = bench_->opened();
+        if (floor.number != 0) {
+            std::cout << refused(floor);
+        } else {
+            std::cout << "accepted, " << counted(floor.faces, "face") << ", " << floor.walkable << " walkable, "
+                      << counted(floor.edges, "edge") << ", " << counted(floor.perimeters, "perimeter");
+        }
+    }
+
+    static void say(const wp_session& answer) {
+        std::cout << (answer.number == 0 ? "done" : refused(answer)) << "; " << counted(answer.f, "edit")
+                  << " kept, cursor " << answer.k;
+    }
+
+    void query(std::int32_t x, std::int32_t y) {
+        const wp_point point = bench_->query(x, y);
+        if (point.number != 0) {
+            std::cout << refused(point);
+        } else {
+            std::cout << (point.found != 0 ? "face " + std::to_string(point.face) : "no face") << ", "
+                      << counted(point.visited, "node") << " visited";
+        }
+    }
+
+    // The form is tried at a bench of its own, with nobody to tell: nothing is edited there.
+    void rewrite() {
+        const FloorForm form = bench_->rewrite();
+        if (form.answer.number != 0) {
+            std::cout << refused(form.answer);
+            return;
+        }
+        Bench again(form.bytes, *this);
+        const wp_floor now = bench_->read(), then = again.opened();
+        const bool same_counts = then.number == 0 && now.faces == then.faces && now.walkable == then.walkable &&
+                                 now.edges == then.edges && now.perimeters == then.perimeters;
+        std::cout << counted(form.bytes.size(), "byte") << (same_counts ? ", the same counts" : ", OTHER COUNTS")
+                  << (again.rewrite().bytes == form.bytes ? ", its own fixed form" : ", NOT ITS OWN FIXED FORM");
+        again.suspend();
+    }
+
+    void take(std::string& text, const std::string& name) const {
+        text = contents(texts_ + '/' + name);
+        std::cout << counted(text.size(), "byte");
+    }
+
+    void show() const {
+        show(layout_rewrite(plan_));
+        std::cout << '\n';
+        show(sight_rewrite(plan_, sight_));
+    }
+
+    static void show(const TextForm& form) {
+        if (form.answer.number != 0) {
+            std::cout << refused(form.answer);
+            return;
+        }
+        std::cout << counted(form.text.size(), "byte");
+        std::istringstream lines(form.text);
+        for (std::string line; std::getline(lines, line);) std::cout << "\n    " << line;
+    }
+
+    // Both texts change or neither does, so that they still belong together.
+    void rename(std::uint32_t room, const std::string& name) {
+        TextForm plan = layout_rename(plan_, room, name), sight = sight_rename(plan_, sight_, room, name);
+        if (plan.answer.number != 0 || sight.answer.number != 0) {
+            std::cout << refused(plan.answer.number != 0 ? plan.answer : sight.answer);
+            return;
+        }
+        plan_ = std::move(plan.text);
+        sight_ = std::move(sight.text);
+        std::cout << "done";
+    }
+
+    void caption_of(std::uint32_t room) const {
+        const Caption found = caption(plan_, house_, room);
+        if (found.answer.number != 0) {
+            std::cout << refused(found.answer);
+        } else {
+            std::cout << found.name << (found.answer.house != 0 ? ", by the house" : ", as the visitor typed it");
+        }
+    }
+
+    void row(std::uint32_t room) const {
+        const wp_row row = sight_row(plan_, sight_, room);
+        if (row.number != 0) {
+            std::cout << refused(row);
+            return;
+        }
+        std::cout << "sees " << counted(row.seen, "room");
+        for (std::uint32_t j = 0; j < WP_ROOMS; ++j) {
+            if ((row.row >> j & 1) != 0) std::cout << ' ' << j;
+        }
+    }
+
+    void link_check() {
+        const wp_answer answer = bench_->link_check(house_);
+        std::cout << (answer.number == 0 ? "every link leads to a room" : refused(answer));
+    }
+
+    static void set_byte(Saved& saved, const Words& said) {
+        if (said[1] != "floor" && said[1] != "journal") give_up("no such part: " + said[1]);
+        Owned& part = said[1] == "floor" ? saved.floor : saved.journal;
+        if (natural(said[2]) >= part.size() || natural(said[3]) > 255) give_up("no such byte: " + said[2]);
+        part[natural(said[2])] = static_cast<std::uint8_t>(natural(said[3]));
+    }
+
+    void power_cut(const Words& said) {
+        Saved saved = bench_->suspend();
+        set_byte(saved, said);
+        bench_ = std::make_unique<Bench>(std::move(saved), *this);
+        say_opened();
+        std::cout << "; " << counted(bench_->records(), "edit") << " kept, cursor " << bench_->cursor();
+    }
+
+    void repair(const Words& said) {
+        if (!stopped_) give_up("nothing is to be repaired");
+        Saved saved = *std::exchange(stopped_, std::nullopt);
+        set_byte(saved, said);
+        Bench again(std::move(saved), *this);
+    }
+
+    std::string texts_, floors_;
+    std::string house_, plan_, sight_;
+    // The floors as they are now; the one that the bench is at, and what it was when it was opened.
+    std::map<std::string, Owned> gallery_;
+    std::string at_;
+    Owned opening_;
+    std::optional<Saved> stopped_;
+    // Last, so that it ends first: its end is told to all the others.
+    std::unique_ptr<Bench> bench_;
+};
+
+}  // namespace
+
+int main(int count, char** given) {
+    if (count != 3) give_up("morning SCRIPT FLOORS");
+    const std::string script = given[1];
+    const std::size_t folder = script.rfind('/');
+    Morning morning(folder == std::string::npos ? "." : script.substr(0, folder), given[2]);
+    std::istringstream lines(contents(script));
+    for (std::string line; std::getline(lines, line);) morning.play(line);
+    return morning.good_end() ? 0 : 1;
+}

@@ -1,0 +1,423 @@
+// wingpollen.hpp: the library for C++17 programs: the refusals with words for volunteers, texts and floors as values,
+// and Bench, one visitor's session over one floor, which puts the floor back when it ends.
+//
+// The engine's one duty (wingpollen.h) is kept here by ownership: whatever a call may write is memory that belongs to
+// the Bench, or is made for that one call, and none of it can be reached from outside except to be read between calls.
+// Nothing here throws but what memory itself may throw when it runs out, and no Bench needs memory to put back.
+#ifndef WINGPOLLEN_HPP
+#define WINGPOLLEN_HPP
+
+#include "wingpollen.h"
+
+#include <cstddef>
+#include <cstdint>
+#include <string>
+#include <string_view>
+#include <type_traits>
+#include <utility>
+#include <vector>
+
+namespace wingpollen {
+
+// The answers cross from one compiler to another by value, so their layout is held to what the library was built with.
+#define WINGPOLLEN_LAYOUT(type, size, align)                                                                   \
+    static_assert(sizeof(type) == (size) && alignof(type) == (align), #type " has another size or alignment"); \
+    static_assert(std::is_standard_layout_v<type> && std::is_trivially_copyable_v<type>, #type " is not plain")
+#define WINGPOLLEN_FIELD(type, field, at, kind)                                                 \
+    static_assert(offsetof(type, field) == (at) && std::is_same_v<decltype(type::field), kind>, \
+                  #type "." #field " stands elsewhere or is another number")
+
+WINGPOLLEN_LAYOUT(wp_answer, 8, 4);
+WINGPOLLEN_FIELD(wp_answer, number, 0, std::uint32_t);
+WINGPOLLEN_FIELD(wp_answer, place, 4, std::uint32_t);
+WINGPOLLEN_LAYOUT(wp_floor, 24, 4);
+WINGPOLLEN_FIELD(wp_floor, number, 0, std::uint32_t);
+WINGPOLLEN_FIELD(wp_floor, place, 4, std::uint32_t);
+WINGPOLLEN_FIELD(wp_floor, faces, 8, std::uint32_t);
+WINGPOLLEN_FIELD(wp_floor, walkable, 12, std::uint32_t);
+WINGPOLLEN_FIELD(wp_floor, edges, 16, std::uint32_t);
+WINGPOLLEN_FIELD(wp_floor, perimeters, 20, std::uint32_t);
+WINGPOLLEN_LAYOUT(wp_form, 12, 4);
+WINGPOLLEN_FIELD(wp_form, number, 0, std::uint32_t);
+WINGPOLLEN_FIELD(wp_form, place, 4, std::uint32_t);
+WINGPOLLEN_FIELD(wp_form, length, 8, std::uint32_t);
+WINGPOLLEN_LAYOUT(wp_point, 20, 4);
+WINGPOLLEN_FIELD(wp_point, number, 0, std::uint32_t);
+WINGPOLLEN_FIELD(wp_point, place, 4, std::uint32_t);
+WINGPOLLEN_FIELD(wp_point, found, 8, std::uint32_t);
+WINGPOLLEN_FIELD(wp_point, face, 12, std::uint32_t);
+WINGPOLLEN_FIELD(wp_point, visited, 16, std::uint32_t);
+WINGPOLLEN_LAYOUT(wp_session, 16, 4);
+WINGPOLLEN_FIELD(wp_session, number, 0, std::uint32_t);
+WINGPOLLEN_FIELD(wp_session, place, 4, std::uint32_t);
+WINGPOLLEN_FIELD(wp_session, f, 8, std::uint32_t);
+WINGPOLLEN_FIELD(wp_session, k, 12, std::uint32_t);
+WINGPOLLEN_LAYOUT(wp_row, 24, 8);
+WINGPOLLEN_FIELD(wp_row, number, 0, std::uint32_t);
+WINGPOLLEN_FIELD(wp_row, place, 4, std::uint32_t);
+WINGPOLLEN_FIELD(wp_row, row, 8, std::uint64_t);
+WINGPOLLEN_FIELD(wp_row, seen, 16, std::uint32_t);
+WINGPOLLEN_LAYOUT(wp_caption_at, 16, 4);
+WINGPOLLEN_FIELD(wp_caption_at, number, 0, std::uint32_t);
+WINGPOLLEN_FIELD(wp_caption_at, house, 4, std::uint32_t);
+WINGPOLLEN_FIELD(wp_caption_at, start, 8, std::uint32_t);
+WINGPOLLEN_FIELD(wp_caption_at, length, 12, std::uint32_t);
+
+#undef WINGPOLLEN_LAYOUT
+#undef WINGPOLLEN_FIELD
+
+// The refusals, by their numbers in document 01. Every number an answer has is accepted or one of these.
+enum class Refusal : std::uint32_t {
+    accepted = 0,
+    length = 1,
+    first_bytes = 2,
+    world_coords = 3,
+    count = 4,
+    table_outside = 5,
+    tables_share = 6,
+    not_finite = 7,
+    corner = 8,
+    material = 9,
+    walkable_first = 10,
+    node_count = 11,
+    node_kind = 12,
+    one_tree = 13,
+    box = 14,
+    runs_twice = 15,
+    adjacency = 16,
+    edge_entry = 17,
+    transition = 18,
+    perimeter = 19,
+    work_memory = 20,
+    no_such_place = 21,
+    paint = 22,
+    link = 23,
+    nudge = 24,
+    journal_full = 25,
+    no_step = 26,
+    record = 27,
+    session = 28,
+    point_beyond = 29,
+    vertex_off_grid = 30,
+    text_length = 31,
+    text_byte = 32,
+    text_line = 33,
+    name = 34,
+    text_number = 35,
+    text_count = 36,
+    name_twice = 37,
+    text_ends = 38,
+    unknown_room = 39,
+    output_short = 40,
+    no_caption = 41,
+    link_nowhere = 42,
+};
+
+// A short sentence for the volunteer at the bench.
+constexpr std::string_view words(Refusal refusal) noexcept {
+    switch (refusal) {
+        case Refusal::accepted: return "All is well.";
+        case Refusal::length: return "The file is too short or too long to be a floor.";
+        case Refusal::first_bytes: return "The file does not begin as a floor does.";
+        case Refusal::world_coords: return "The file is a door's or a thing's mesh, not an area floor.";
+        case Refusal::count: return "The file claims more entries than the bench handles.";
+        case Refusal::table_outside: return "A table does not lie inside the file.";
+        case Refusal::tables_share: return "Two tables lie on top of each other.";
+        case Refusal::not_finite: return "A coordinate is not an ordinary number.";
+        case Refusal::corner: return "A face has a corner that is missing or used twice.";
+        case Refusal::material: return "A face has a material that the house does not know.";
+        case Refusal::walkable_first: return "Walkable faces do not stand before the others.";
+        case Refusal::node_count: return "The search tree has the wrong number of nodes or the wrong root.";
+        case Refusal::node_kind: return "A node of the search tree is neither a leaf nor a fork.";
+        case Refusal::one_tree: return "The search tree is not one tree over all faces.";
+        case Refusal::box: return "A box of the search tree is too small for what it holds.";
+        case Refusal::runs_twice: return "Two faces run along the same side in the same direction.";
+        case Refusal::adjacency: return "A face names the wrong neighbour.";
+        case Refusal::edge_entry: return "The list of border edges is wrong.";
+        case Refusal::transition: return "An edge leads to a room number that cannot be.";
+        case Refusal::perimeter: return "The border edges do not close into loops.";
+        case Refusal::work_memory: return "The bench lent too little work memory.";
+        case Refusal::no_such_place: return "There is no such place here.";
+        case Refusal::paint: return "That paint would change where visitors can walk.";
+        case Refusal::link: return "A link leads to a room from 0 to 63, or nowhere (-1).";
+        case Refusal::nudge: return "That nudge is too large or leaves the grid.";
+        case Refusal::journal_full: return "The journal is full.";
+        case Refusal::no_step: return "There is nothing more to undo or redo.";
+        case Refusal::record: return "The journal and the floor disagree, so nothing was written over.";
+        case Refusal::session: return "The session's numbers do not fit its journal.";
+        case Refusal::point_beyond: return "That point lies beyond the grid.";
+        case Refusal::vertex_off_grid: return "A corner of the floor is not on the grid.";
+        case Refusal::text_length: return "The text is too long.";
+        case Refusal::text_byte: return "The text has a character that is not allowed.";
+        case Refusal::text_line: return "A line is not what should stand there.";
+        case Refusal::name: return "A name has 1 to 16 letters, digits or underscores.";
+        case Refusal::text_number: return "A number is not written as it should be.";
+        case Refusal::text_count: return "A count is not written as it should be, or is too large.";
+        case Refusal::name_twice: return "That name is already taken.";
+        case Refusal::text_ends: return "The text ends too early.";
+        case Refusal::unknown_room: return "No room of the layout has that name.";
+        case Refusal::output_short: return "There is too little space for what would be written.";
+        case Refusal::no_caption: return "Neither text has a name for that room.";
+        case Refusal::link_nowhere: return "An edge leads to a room that the layout does not have.";
+    }
+    return "The library answered a number that is no refusal.";
+}
+
+// What the place beside a refusal counts, or nothing where the place says nothing. An edit refused by 21 to 28 has
+// the place that it was asked for, and undo, redo and put-back have their cursor: both are simply "place". Lines count
+// from 1; line 0 is the name that was typed for a room.
+constexpr std::string_view place_words(Refusal refusal) noexcept {
+    switch (refusal) {
+        case Refusal::world_coords:
+        case Refusal::count:
+        case Refusal::table_outside:
+        case Refusal::tables_share:
+        case Refusal::not_finite:
+        case Refusal::node_count: return "byte";
+        case Refusal::corner:
+        case Refusal::material:
+        case Refusal::walkable_first: return "face";
+        case Refusal::node_kind:
+        case Refusal::box: return "node";
+        case Refusal::runs_twice:
+        case Refusal::adjacency: return "half-edge";
+        case Refusal::edge_entry:
+        case Refusal::transition:
+        case Refusal::link_nowhere: return "edge entry";
+        case Refusal::perimeter: return "perimeter";
+        case Refusal::no_such_place:
+        case Refusal::paint:
+        case Refusal::link:
+        case Refusal::nudge:
+        case Refusal::journal_full:
+        case Refusal::no_step:
+        case Refusal::record:
+        case Refusal::session: return "place";
+        case Refusal::vertex_off_grid: return "vertex";
+        case Refusal::text_byte: return "byte";
+        case Refusal::text_line:
+        case Refusal::name:
+        case Refusal::text_number:
+        case Refusal::text_count:
+        case Refusal::name_twice:
+        case Refusal::text_ends:
+        case Refusal::unknown_room: return "line";
+        default: return {};
+    }
+}
+
+// The refusal of any answer.
+template <class Answered>
+constexpr Refusal refusal(const Answered& answer) noexcept {
+    return static_cast<Refusal>(answer.number);
+}
+
+// Bytes to read: a pointer and a length. They belong to someone else.
+struct Bytes {
+    const std::uint8_t* data = nullptr;
+    std::size_t length = 0;
+
+    constexpr Bytes() noexcept = default;
+    constexpr Bytes(const std::uint8_t* start, std::size_t count) noexcept : data(start), length(count) {}
+    Bytes(const std::vector<std::uint8_t>& bytes) noexcept : data(bytes.data()), length(bytes.size()) {}
+    // A text's bytes are its characters, whether or not char has a sign.
+    Bytes(std::string_view text) noexcept
+        : data(reinterpret_cast<const std::uint8_t*>(text.data())), length(text.size()) {}
+};
+
+namespace inside {
+
+// An empty vector or view may have no address, and a call wants one that is not null.
+inline std::uint8_t nowhere[1];
+inline const std::uint8_t* to_read(Bytes bytes) noexcept { return bytes.data != nullptr ? bytes.data : nowhere; }
+template <class Owned>
+std::uint8_t* to_write(Owned& owned) noexcept {
+    return owned.empty() ? nowhere : reinterpret_cast<std::uint8_t*>(owned.data());
+}
+
+}  // namespace inside
+
+// A floor in its fixed form, empty on refusal.
+struct FloorForm {
+    wp_form answer;
+    std::vector<std::uint8_t> bytes;
+};
+
+// A text in its fixed form, empty on refusal.
+struct TextForm {
+    wp_form answer;
+    std::string text;
+};
+
+// A room's name, a part of the text that it was found in, and where that is.
+struct Caption {
+    wp_caption_at answer;
+    std::string_view name;
+};
+
+namespace inside {
+
+// Memory for one text's form, made for one call, so that it shares no byte with anything handed in.
+template <class Call>
+TextForm text_form(Call call) {
+    TextForm form{{}, std::string(WP_TEXT, '\0')};
+    form.answer = call(to_write(form.text), form.text.size());
+    form.text.resize(form.answer.length);
+    return form;
+}
+
+}  // namespace inside
+
+inline TextForm layout_rewrite(std::string_view layout) {
+    return inside::text_form([&](std::uint8_t* out, std::size_t length) {
+        return wp_layout_rewrite(inside::to_read(layout), layout.size(), out, length);
+    });
+}
+
+inline TextForm layout_rename(std::string_view layout, std::uint32_t room, std::string_view name) {
+    return inside::text_form([&](std::uint8_t* out, std::size_t length) {
+        return wp_layout_rename(inside::to_read(layout), layout.size(), room, inside::to_read(name),
+                                name.size(), out, length);
+    });
+}
+
+inline TextForm sight_rewrite(std::string_view layout, std::string_view vis) {
+    return inside::text_form([&](std::uint8_t* out, std::size_t length) {
+        return wp_sight_rewrite(inside::to_read(layout), layout.size(), inside::to_read(vis), vis.size(),
+                                out, length);
+    });
+}
+
+// Reads back with the layout that layout_rename gives for the same room and name.
+inline TextForm sight_rename(std::string_view layout, std::string_view vis, std::uint32_t room, std::string_view name) {
+    return inside::text_form([&](std::uint8_t* out, std::size_t length) {
+        return wp_sight_rename(inside::to_read(layout), layout.size(), inside::to_read(vis), vis.size(), room,
+                               inside::to_read(name), name.size(), out, length);
+    });
+}
+
+inline wp_row sight_row(std::string_view layout, std::string_view vis, std::uint32_t room) noexcept {
+    return wp_sight_row(inside::to_read(layout), layout.size(), inside::to_read(vis), vis.size(), room);
+}
+
+// The name lives as long as the text that it is a part of.
+inline Caption caption(std::string_view visitor, std::string_view house, std::uint32_t room) noexcept {
+    const wp_caption_at at =
+        wp_caption(inside::to_read(visitor), visitor.size(), inside::to_read(house), house.size(), room);
+    const std::string_view text = at.house != 0 ? house : visitor;
+    return {at, text.substr(at.start, at.length)};
+}
+
+// A visit that was broken off: everything a Bench needs to go on with it, or to put it back, later.
+struct Saved {
+    std::vector<std::uint8_t> floor;
+    std::vector<std::uint8_t> journal;
+    std::uint32_t f = 0;
+    std::uint32_t k = 0;
+};
+
+// Who is told how a visit ended. A Bench's last put-back may happen in its destructor, where no answer can be returned;
+// it must be heard all the same, since a floor that is not put back is what the next visitor would walk in.
+class Witness {
+public:
+    // Number 0: the floor is the opening floor. Else the put-back was refused or stopped: floor, journal, f and k are
+    // those to go on from (Saved), and nothing is lost if they are kept. The bytes are gone when this returns.
+    virtual void left(const wp_session& answer, Bytes floor, Bytes journal) noexcept = 0;
+
+protected:
+    ~Witness() = default;
+};
+
+// One visitor's session over one floor. It owns the floor's bytes, the journal, the work memory, f and k, puts the
+// floor back when it ends, and then tells its witness. Every call passes on to the library; nothing is tested here.
+class Bench {
+public:
+    // Opens a floor; opened() says what the reader said of it. The journal has room for so many edits.
+    Bench(Bytes floor, Witness& witness, std::size_t records = WP_RECORDS)
+        : Bench(Saved{copied(floor), std::vector<std::uint8_t>(WP_RECORD * records), 0, 0}, witness) {}
+
+    // Goes on with a visit that was broken off.
+    Bench(Saved saved, Witness& witness)
+        : witness_(&witness), saved_(std::move(saved)), work_(WP_WORK), opened_(read()) {}
+
+    Bench(const Bench&) = delete;
+    Bench& operator=(const Bench&) = delete;
+
+    ~Bench() {
+        if (witness_ != nullptr) {
+            const wp_session answer = put_back();
+            witness_->left(answer, saved_.floor, saved_.journal);
+        }
+    }
+
+    const wp_floor& opened() const noexcept { return opened_; }
+    bool accepted() const noexcept { return opened_.number == 0; }
+
+    // The floor's bytes as they stand, to be read before the next call.
+    Bytes floor() const noexcept { return saved_.floor; }
+    std::uint32_t records() const noexcept { return saved_.f; }
+    std::uint32_t cursor() const noexcept { return saved_.k; }
+
+    wp_session paint(std::uint32_t face, std::uint32_t material) noexcept { return edited(wp_paint, face, material); }
+    wp_session link(std::uint32_t entry, std::int32_t room) noexcept { return edited(wp_link, entry, room); }
+    wp_session nudge(std::uint32_t place, std::int32_t step) noexcept { return edited(wp_nudge, place, step); }
+    wp_session undo() noexcept { return edited(wp_undo); }
+    wp_session redo() noexcept { return edited(wp_redo); }
+
+    // Also tried at the end of the visit. One that stops keeps what it undid and may be tried again.
+    wp_session put_back() noexcept { return edited(wp_put_back); }
+
+    wp_floor read() noexcept {
+        return wp_read(inside::to_read(floor()), floor().length, inside::to_write(work_), work_.size());
+    }
+
+    wp_point query(std::int32_t x, std::int32_t y) noexcept {
+        return wp_query(inside::to_read(floor()), floor().length, inside::to_write(work_), work_.size(), x, y);
+    }
+
+    wp_answer link_check(std::string_view layout) noexcept {
+        return wp_link_check(inside::to_read(floor()), floor().length, inside::to_write(work_), work_.size(),
+                             inside::to_read(layout), layout.size());
+    }
+
+    // No form is longer than its floor, since a floor's tables share no byte.
+    FloorForm rewrite() {
+        FloorForm form{{}, std::vector<std::uint8_t>(saved_.floor.size())};
+        form.answer = wp_rewrite(inside::to_read(floor()), floor().length, inside::to_write(work_), work_.size(),
+                                 inside::to_write(form.bytes), form.bytes.size());
+        form.bytes.resize(form.answer.length);
+        return form;
+    }
+
+    // Breaks the visit off: the session is handed over as it is, nothing is put back and the witness hears nothing.
+    // What is left here is an empty floor, which every call refuses.
+    Saved suspend() noexcept {
+        witness_ = nullptr;
+        return std::exchange(saved_, Saved{});
+    }
+
+private:
+    static std::vector<std::uint8_t> copied(Bytes bytes) {
+        return bytes.length == 0 ? std::vector<std::uint8_t>{}
+                                 : std::vector<std::uint8_t>(bytes.data, bytes.data + bytes.length);
+    }
+
+    template <class Call, class... Words>
+    wp_session edited(Call call, Words... words) noexcept {
+        const wp_session answer =
+            call(inside::to_write(saved_.floor), saved_.floor.size(), inside::to_write(saved_.journal),
+                 saved_.journal.size(), saved_.f, saved_.k, words...);
+        saved_.f = answer.f;
+        saved_.k = answer.k;
+        return answer;
+    }
+
+    Witness* witness_;
+    Saved saved_;
+    std::vector<std::uint8_t> work_;
+    wp_floor opened_;
+};
+
+}  // namespace wingpollen
+
+#endif
