@@ -1,6 +1,5 @@
 // The link check: one walkable triangle whose three edges lead to rooms of a layout. What each case shows is written before its answer.
-use super::texts::linked;
-use super::texts::linked_short;
+use libc::STDOUT_FILENO;
 ghost use Prim.Native.Nat.{_+_, _≤_};
 
 // -1 as 32 bits, and the float 1.
@@ -64,9 +63,19 @@ fn edges(b: &mut [u8; 288], t0: u32, t1: u32, t2: u32) {
     word(b, 284, 3);
 }
 
+// What the link check says of a floor and a layout, with so much work memory.
+fn linked(what: &[u8], floor: &[u8], rooms: &[u8], work: &mut [u8]) {
+    let a = links::link_check(floor, work, rooms);
+    io::write_all(STDOUT_FILENO, b"links, ");
+    io::write_all(STDOUT_FILENO, what);
+    io::write_all(STDOUT_FILENO, b": ");
+    super::told(a);
+}
+
 // The triangle that was made, checked against a layout.
 fn made(what: &[u8], floor: &[u8; 288], rooms: &[u8]) {
-    linked(what, floor, rooms);
+    let mut work = [0u8; 16384];
+    linked(what, floor, rooms, &mut work);
 }
 
 // The triangle with these transitions, checked against a layout.
@@ -93,6 +102,8 @@ pub(crate) fn all() {
         b"beginlayout\nroomcount 0\n",
     );
     links(b"floor refused before the text", 63, 63, 64, b"");
-    linked(b"no floor", b"", two);
-    linked_short(b"work memory too short", b"", two);
+    let mut work = [0u8; 16384];
+    linked(b"no floor", b"", two, &mut work);
+    let mut few = [0u8; 16383];
+    linked(b"work memory too short", b"", two, &mut few);
 }

@@ -1,12 +1,11 @@
-// The vectors beyond document 01's checked examples: each is run, and what is written is compared with the stored output.
+// The vectors beyond document 01's checked examples: each is run, and what is written is compared with the stored output. The text cases are
+// read from standard input.
+use libc::STDIN_FILENO;
 use libc::STDOUT_FILENO;
 use verdict::Answer;
 ghost use Prim.Native.Nat.{_<_};
 
-mod crowd;
 mod floors;
-mod layouts;
-mod sights;
 mod texts;
 
 fn number(n: u32) {
@@ -116,8 +115,9 @@ fn main() {
     headers();
     nudges();
     triangles();
-    layouts::all();
-    sights::all();
-    crowd::all();
+    let mut cases = [0u8; 65536];
+    let n = io::read_full(STDIN_FILENO, &mut cases);
+    texts::all(&cases[..n]);
+    texts::longest();
     floors::all();
 }

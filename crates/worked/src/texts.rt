@@ -1,11 +1,77 @@
-// How a text is run: each function makes one public call. It writes which call, what the case shows and the numbers of the answer on one
-// line, and then the bytes that the call wrote or named.
+// The text cases. Each is eight lines of standard input: the call, what the case shows, two texts, a room, a name, the length of the output, and
+// an empty line. In a text or name a backslash and a letter stand for a byte: n LF, r CR, t tab, 0 the byte 0, f the byte 255. For each case
+// the call, what it shows and the numbers of the answer are written on one line, and then the bytes that the call wrote or named.
 use super::end;
 use super::gap;
 use super::number;
 use libc::STDOUT_FILENO;
-use verdict::Answer;
+use text::line;
+use text::same_word;
 use verdict::Form;
+ghost use Prim.Native.Nat.{_≤_, _<_};
+ghost use lib.ListN.{length};
+
+// The byte that a letter behind a backslash stands for.
+fn meant(b: u8) -> u8 {
+    if b == 110 {
+        return 10;
+    }
+    if b == 114 {
+        return 13;
+    }
+    if b == 116 {
+        return 9;
+    }
+    if b == 48 {
+        return 0;
+    }
+    255
+}
+
+// The byte that stands at a place.
+fn byte_at(s: &[u8], i: usize) -> u8
+    requires { ⌜ i < length (now s) ⌝ }
+{
+    if i + 1 < s.len() {
+        if s[i] == 92 {
+            return meant(s[i + 1]);
+        }
+    }
+    s[i]
+}
+
+// How wide it is there.
+fn wide(s: &[u8], i: usize) -> usize
+    requires { ⌜ i < length (now s) ⌝ }
+    ensures { λ r. ⌜ (1 ≤ r) × (r ≤ 2) ⌝ }
+{
+    if i + 1 < s.len() {
+        if s[i] == 92 {
+            return 2;
+        }
+    }
+    1
+}
+
+// A line with its bytes as they are meant, as far as there is room; how many there are.
+fn spelled(s: &[u8], out: &mut [u8]) -> usize {
+    let mut i = 0;
+    let mut n = 0;
+    while i < s.len() {
+        if n == out.len() {
+            return n;
+        }
+        out[n] = byte_at(s, i);
+        i += wide(s, i);
+        n += 1;
+    }
+    n
+}
+
+// A whole number below 65,536, 0 where there is none.
+fn numeral(w: &[u8]) -> u32 {
+    (text::number(w).millionths / 1000000 % 65536) as u32
+}
 
 // The call, and what the case shows.
 fn shows(call: &[u8], what: &[u8]) {
@@ -35,35 +101,11 @@ fn form(call: &[u8], what: &[u8], f: Form, out: &[u8]) {
     io::write_all(STDOUT_FILENO, start(out, f.length as usize));
 }
 
-// A layout in its fixed form.
-pub(crate) fn layout(what: &[u8], text: &[u8]) {
-    let mut out = [0u8; 512];
-    layout_into(what, text, &mut out);
-}
-
-// The same, into an output of any length.
-pub(crate) fn layout_into(what: &[u8], text: &[u8], out: &mut [u8]) {
-    let f = layout::layout_rewrite(text, out);
-    form(b"LYT", what, f, out);
-}
-
-// A layout with another name for a room.
-pub(crate) fn renamed(what: &[u8], text: &[u8], room: u32, name: &[u8]) {
-    let mut out = [0u8; 512];
-    renamed_into(what, text, room, name, &mut out);
-}
-
-// The same, into an output of any length.
-pub(crate) fn renamed_into(what: &[u8], text: &[u8], room: u32, name: &[u8], out: &mut [u8]) {
-    let f = layout::layout_rename(text, room, name, out);
-    form(b"LYT renamed,", what, f, out);
-}
-
 // A room's caption: the number, the length, and the part of the text on a line of its own.
-pub(crate) fn caption<'a>(what: &[u8], visitor: &'a [u8], house: &'a [u8], room: u32) {
+fn caption<'a>(call: &[u8], what: &[u8], visitor: &'a [u8], house: &'a [u8], room: u32) {
     let mut told: u32 = 0;
     let part = layout::caption(visitor, house, room, &mut told);
-    shows(b"caption,", what);
+    shows(call, what);
     number(told);
     gap();
     io::print_decimal(STDOUT_FILENO, part.len() as u64);
@@ -72,39 +114,8 @@ pub(crate) fn caption<'a>(what: &[u8], visitor: &'a [u8], house: &'a [u8], room:
     end();
 }
 
-// Visibility in its fixed form.
-pub(crate) fn sight(what: &[u8], rooms: &[u8], vis: &[u8]) {
-    let mut out = [0u8; 512];
-    sight_into(what, rooms, vis, &mut out);
-}
-
-// The same, into an output of any length.
-pub(crate) fn sight_into(what: &[u8], rooms: &[u8], vis: &[u8], out: &mut [u8]) {
-    let f = sight::sight_rewrite(rooms, vis, out);
-    form(b"VIS", what, f, out);
-}
-
-// Visibility with another name for a room.
-pub(crate) fn sight_renamed(what: &[u8], rooms: &[u8], vis: &[u8], room: u32, name: &[u8]) {
-    let mut out = [0u8; 512];
-    sight_renamed_into(what, rooms, vis, room, name, &mut out);
-}
-
-// The same, into an output of any length.
-pub(crate) fn sight_renamed_into(
-    what: &[u8],
-    rooms: &[u8],
-    vis: &[u8],
-    room: u32,
-    name: &[u8],
-    out: &mut [u8],
-) {
-    let f = sight::sight_rename(rooms, vis, room, name, out);
-    form(b"VIS renamed,", what, f, out);
-}
-
 // A room's row: number, place, row, how many rooms it sees.
-pub(crate) fn row(what: &[u8], rooms: &[u8], vis: &[u8], room: u32) {
+fn row(what: &[u8], rooms: &[u8], vis: &[u8], room: u32) {
     let r = sight::sight_row(rooms, vis, room);
     shows(b"row,", what);
     number(r.number);
@@ -117,14 +128,21 @@ pub(crate) fn row(what: &[u8], rooms: &[u8], vis: &[u8], room: u32) {
     end();
 }
 
+// Visibility in its fixed form.
+fn sight(what: &[u8], rooms: &[u8], vis: &[u8], out: &mut [u8]) {
+    let f = sight::sight_rewrite(rooms, vis, out);
+    form(b"VIS", what, f, out);
+}
+
 // Visibility rewritten, and a room's row.
 fn sight_and_row(what: &[u8], rooms: &[u8], vis: &[u8], room: u32) {
-    sight(what, rooms, vis);
+    let mut out = [0u8; 512];
+    sight(what, rooms, vis, &mut out);
     row(what, rooms, vis, room);
 }
 
 // Visibility with another name for a room, read against the layout with the same name for it.
-pub(crate) fn read_back(what: &[u8], rooms: &[u8], vis: &[u8], room: u32, name: &[u8]) {
+fn read_back(what: &[u8], rooms: &[u8], vis: &[u8], room: u32, name: &[u8]) {
     let mut new_rooms = [0u8; 512];
     let mut new_vis = [0u8; 512];
     let a = layout::layout_rename(rooms, room, name, &mut new_rooms);
@@ -134,21 +152,118 @@ pub(crate) fn read_back(what: &[u8], rooms: &[u8], vis: &[u8], room: u32, name: 
     sight_and_row(what, start(&new_rooms, n), start(&new_vis, m), room);
 }
 
-// The link check of a floor, with work memory of its own.
-pub(crate) fn linked(what: &[u8], floor: &[u8], rooms: &[u8]) {
-    let mut work = [0u8; 16384];
-    let a = links::link_check(floor, &mut work, rooms);
-    told(what, a);
+// One of the calls that write an output.
+fn written(
+    call: &[u8],
+    what: &[u8],
+    first: &[u8],
+    second: &[u8],
+    room: u32,
+    name: &[u8],
+    out: &mut [u8],
+) {
+    if same_word(call, b"LYT") {
+        let f = layout::layout_rewrite(first, out);
+        return form(call, what, f, out);
+    }
+    if same_word(call, b"LYT renamed,") {
+        let f = layout::layout_rename(first, room, name, out);
+        return form(call, what, f, out);
+    }
+    if same_word(call, b"VIS") {
+        return sight(what, first, second, out);
+    }
+    let f = sight::sight_rename(first, second, room, name, out);
+    form(call, what, f, out);
 }
 
-// The same with a byte of work memory too few.
-pub(crate) fn linked_short(what: &[u8], floor: &[u8], rooms: &[u8]) {
-    let mut work = [0u8; 16383];
-    let a = links::link_check(floor, &mut work, rooms);
-    told(what, a);
+// One of all calls.
+fn called<'a>(
+    call: &[u8],
+    what: &[u8],
+    first: &'a [u8],
+    second: &'a [u8],
+    room: u32,
+    name: &[u8],
+    out: &mut [u8],
+) {
+    if same_word(call, b"caption,") {
+        return caption(call, what, first, second, room);
+    }
+    if same_word(call, b"row,") {
+        return row(what, first, second, room);
+    }
+    if same_word(call, b"read back,") {
+        return read_back(what, first, second, room, name);
+    }
+    written(call, what, first, second, room, name, out);
 }
 
-fn told(what: &[u8], a: Answer) {
-    shows(b"links,", what);
-    super::told(a);
+// The output of a case is as long as it says.
+fn lent<'a>(
+    call: &[u8],
+    what: &[u8],
+    first: &'a [u8],
+    second: &'a [u8],
+    room: u32,
+    name: &[u8],
+    out: &mut [u8],
+    long: usize,
+) {
+    if long <= out.len() {
+        called(call, what, first, second, room, name, &mut out[..long]);
+    }
+}
+
+// Case k.
+fn run(s: &[u8], k: usize)
+    requires { ⌜ k < 1000 ⌝ }
+{
+    let at = 8 * k;
+    let mut first = [0u8; 512];
+    let mut second = [0u8; 512];
+    let mut name = [0u8; 64];
+    let mut out = [0u8; 512];
+    let n = spelled(line(s, at + 2), &mut first);
+    let m = spelled(line(s, at + 3), &mut second);
+    let l = spelled(line(s, at + 5), &mut name);
+    let room = numeral(line(s, at + 4));
+    let long = numeral(line(s, at + 6)) as usize;
+    lent(
+        line(s, at),
+        line(s, at + 1),
+        start(&first, n),
+        start(&second, m),
+        room,
+        start(&name, l),
+        &mut out,
+        long,
+    );
+}
+
+// All cases, up to one without a call.
+pub(crate) fn all(s: &[u8]) {
+    let mut k: usize = 0;
+    while k < 1000 {
+        if line(s, 8 * k).len() == 0 {
+            return;
+        }
+        run(s, k);
+        k += 1;
+    }
+}
+
+// Texts of 65,537 and 65,536 refused bytes: 31 stands before 32.
+pub(crate) fn longest() {
+    let mut out = [0u8; 512];
+    let rooms = b"beginlayout\nroomcount 3\nHall 0 0 0\nCourt 10 0 0\nWell 0 10 0\ndonelayout\n";
+    let over = [35u8; 65537];
+    let most = [35u8; 65536];
+    let a = layout::layout_rewrite(&over, &mut out);
+    form(b"LYT", b"65,537 refused bytes", a, &out);
+    let b = layout::layout_rewrite(&most, &mut out);
+    form(b"LYT", b"65,536 refused bytes", b, &out);
+    sight(b"layout refused first", b"beginlayout\n\n", &over, &mut out);
+    sight(b"65,537 refused bytes", rooms, &over, &mut out);
+    sight(b"65,536 refused bytes", rooms, &most, &mut out);
 }
