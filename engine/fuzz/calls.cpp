@@ -112,7 +112,10 @@ struct Game {
         f = input.number(4), k = input.number(4), a = input.number(4), b = input.number(4);
         third.lay(input.take(third_length % 64), (lie & 1) != 0);
         second.lay(input.take(second_length), (lie & 2) != 0);
-        first.lay(input.rest(), (lie & 4) != 0);
+        Owned rest = input.rest();
+        // The longest text, or one byte more, without an input that long.
+        if ((lie & 32) != 0) rest.resize(WP_TEXT + (lie >> 6 & 1), ' ');
+        first.lay(rest, (lie & 4) != 0);
         work.lay(Owned(work_length, static_cast<std::uint8_t>(lie)), (lie & 8) != 0);
         out.lay(Owned(out_length, static_cast<std::uint8_t>(~lie)), (lie & 16) != 0);
     }

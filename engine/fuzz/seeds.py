@@ -66,6 +66,8 @@ def cases():
             yield case(call, data, record(3, 0, 0, 0) * 3, f=3, k=2)
     for text in LAYOUTS:
         yield case(LAYOUT, text)
+        yield case(LAYOUT, text, lie=0b0110110)
+        yield case(LAYOUT, text, lie=0b1110110)
         yield case(LAYOUT_NAME, text, third=b"New_Name", a=1)
         yield case(CAPTION, text, LAYOUTS[0], a=1)
         yield case(CAPTION, LAYOUTS[1], text, a=1)
@@ -76,6 +78,7 @@ def cases():
         yield case(SIGHT_NAME, text, LAYOUTS[0], b"Den", a=1)
         yield case(SIGHT_NAME, text, LAYOUTS[0], b"HALL", a=1)
         yield case(ROW, text, LAYOUTS[0], a=1)
+        yield case(ROW, text, LAYOUTS[0], a=1, lie=0b1110110)
 
 
 if __name__ == "__main__":
