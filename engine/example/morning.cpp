@@ -5,7 +5,7 @@
 // FLOORS is the folder of the floors; texts stand beside the script. A script has one command on each line, words
 // parted by blanks; a line that starts with # is a remark, and blank lines are skipped. Commands:
 //
-//     visitor NAME          a visitor comes
+//     visitor NUMBER        a visitor comes
 //     open FLOOR [RECORDS]  the bench opens a floor, with a journal for so many edits (4096)
 //     paint FACE MATERIAL   link ENTRY ROOM   nudge PLACE STEP   undo   redo   putback
 //     query X Y             which face holds the point, in sixty-fourths
@@ -137,7 +137,7 @@ private:
         using M = Morning;
         using W = Words;
         static const std::map<std::string, Command> all = {
-            {"visitor", {1, 1, false, [](M& m, const W& w) { m.visitor(w[1]); }}},
+            {"visitor", {1, 1, false, [](M& m, const W&) { m.visitor(); }}},
             {"open", {1, 2, false, [](M& m, const W& w) { m.open(w[1], w.size() > 2 ? natural(w[2]) : WP_RECORDS); }}},
             {"paint", {2, 2, true, [](M& m, const W& w) { say(m.bench_->paint(natural(w[1]), natural(w[2]))); }}},
             {"link", {2, 2, true, [](M& m, const W& w) { say(m.bench_->link(natural(w[1]), whole(w[2]))); }}},
@@ -162,10 +162,10 @@ private:
         return all;
     }
 
-    void visitor(const std::string& name) {
+    void visitor() {
         plan_.clear();
         sight_.clear();
-        std::cout << "welcome, " << name;
+        std::cout << "welcome";
     }
 
     void open(const std::string& name, std::uint32_t records) {
