@@ -1,6 +1,8 @@
 -- By the length. Assumes nothing.
 use borrow.Author.Needs.{needs}
 use mathlib.Core.Path.{_≡_}
+use native.Mathlib.Omega.{arith}
+use lib.ListN.{length}
 use borrow.Author.Tests.{lt-ltb, le-ltb}
 use Rattle.inspect.specs.Line.{fileLine}
 use Rattle.inspect.proofs.file_line.Statement.{statement}
@@ -8,7 +10,9 @@ use Rattle.inspect.proofs.file_line.Tie as tie
 
 returns : tie.Need-returns
 unfolding fileLine
-returns c = rw (lt-ltb 65536 _ (c .before .before .before .before .if1 .taken)) (c .before .before .put-too-long .ensures)
+returns c =
+    let n = length (c .before .before .before .before .before .before .before .before .args .bytes .now) in
+    rw (lt-ltb 65536 n (omega (arith, c .before .before .before .before .if1 .taken))) (c .before .before .put-too-long .ensures)
 
 returns-2 : tie.Need-returns-2
 unfolding fileLine
