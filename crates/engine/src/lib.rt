@@ -1,8 +1,8 @@
 // Every call that the exhibit's engine makes, under the names and with the numbers of the C interface. Each passes on to the function of that
 // meaning and promises the same.
+use caption::CaptionAt;
 use floor::Floor;
 use journal::Session;
-use layout::CaptionAt;
 use query::Point;
 use sight::Row;
 use verdict::Answer;
@@ -18,7 +18,7 @@ ghost use Rattle.journal.specs.Step.{lent, left, editStep, undoStep, redoStep, 
 ghost use Rattle.journal.specs.Calls.{areaFloor};
 ghost use Rattle.layout.specs.Layout.{partsOf, formText};
 ghost use Rattle.layout.specs.Rewrite.{rewriteVerdict, renameVerdict, renamedForm};
-ghost use Rattle.layout.specs.Caption.{captionAt};
+ghost use Rattle.caption.specs.Caption.{captionAt};
 ghost use Rattle.sight.specs.Sight.{rowAnswer};
 ghost use Rattle.sight.specs.Rewrite.{rewrittenSight, renamedSight, sightRewriteVerdict, sightRenameVerdict};
 ghost use Rattle.links.specs.Links.{linkVerdict};
@@ -190,5 +190,5 @@ pub extern "C" fn wp_link_check(bytes: &[u8], work: &mut [u8], text: &[u8]) -> A
 pub extern "C" fn wp_caption(visitor: &[u8], house: &[u8], room: u32) -> CaptionAt
     ensures { λ r. ⌜ r ≡ captionAt (now (visitor .entry)) (now (house .entry)) room ⌝ }
 {
-    layout::caption_at(visitor, house, room)
+    caption::caption_at(visitor, house, room)
 }

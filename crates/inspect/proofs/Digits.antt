@@ -12,9 +12,9 @@ use borrow.Author.Tests.{eqb-true, ltb-true}
 use Rattle.verdict.specs.Lowest.{lowest, anyUnder, allUnder}
 use Rattle.verdict.proofs.Bools.{decided}
 use Rattle.verdict.proofs.Lowest.{all-true, lowest-is}
-use Rattle.text.specs.Count.{value}
-use Rattle.text.specs.Number.{fixed}
-use Rattle.text.proofs.NumberTrip.{fixed-value}
+use Rattle.number.specs.Count.{value}
+use Rattle.number.specs.Number.{fixed}
+use Rattle.number.proofs.NumberTrip.{fixed-value}
 use Rattle.inspect.specs.Line.{hasUpTo, digitCount, decimal}
 
 abbrev pub powers : List ℕ

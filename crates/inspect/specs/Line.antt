@@ -6,7 +6,7 @@ use mathlib.Core.List.{List, [], _∷_, _++_}
 use lib.Dec.{ltb, eqb}
 use lib.ListN.{length}
 use Rattle.verdict.specs.Lowest.{lowest}
-use Rattle.text.specs.Number.{fixed}
+use Rattle.number.specs.Number.{fixed}
 use Rattle.floor.specs.Reader.{readerAnswer}
 use Rattle.floor.specs.declared.Floor.{Floor}
 

@@ -51,7 +51,7 @@ fn put_decimal(out: &mut [u8], at: usize, n: u32) -> usize
     ensures { λ r. ⌜ Wrote (now (out .entry)) (now (out .exit)) at r (decimal n) × (r ≤ at + 10) ⌝ }
 {
     let k = first_under(n) + 1;
-    text::put_fixed(out, at, k, n as u64)
+    number::put_fixed(out, at, k, n as u64)
 }
 
 // A word and then a number.

@@ -20,7 +20,6 @@ use Rattle.text.specs.Reading.{Word, Line, nth}
 use Rattle.layout.specs.Grammar.{namesOf}
 use Rattle.layout.specs.Layout.{layoutVerdict, layoutOf, entryOf, partsOf, partsOfTyped, formText}
 use Rattle.layout.specs.Rewrite.{renamed, renamedForm, knownBut, roomNames, roomsOf, rule40, rewriteVerdict, nameVerdict, renameVerdict}
-use Rattle.layout.specs.Caption.{hasRoom, roomName, captionOf, captionNumber}
 use Rattle.layout.specs.Starts.{entryAt, held, Named, keptName, Answered}
 use Rattle.layout.proofs.EachLaws.{length-names}
 use Rattle.layout.proofs.ReadLaws.{layout-good, verdict-proper}
@@ -49,26 +48,6 @@ module _ (s : List ℕ) (r : Layout) (sized : length (r .starts) ≡ 192) (a : A
 
   pub verdict-accepts : r .number ≡ 0 → layoutVerdict s ≡ accepted
   verdict-accepts z = verdict-proper s .at-0 (ap (λ (v : Answer). v .number) verdict-is ∙ z)
-
-  -- ---- captions
-
-  pub has-it : (i : ℕ) → i < r .rooms → hasRoom s i ≡ true
-  unfolding hasRoom
-  has-it i h = lt-ltb i (length (roomNames s)) (omega (arith, rooms-are))
-
-  pub has-none : (i : ℕ) → r .rooms ≤ i → hasRoom s i ≡ false
-  unfolding hasRoom
-  has-none i h = le-ltb i (length (roomNames s)) (omega (arith, rooms-are))
-
-  pub its-name : (i : ℕ) (l u : List ℕ) → i < r .rooms → l ≡ lineAt s (getD (r .starts) i 0) → u ≡ nth (words l) 0 → u ≡ roomName s i
-  unfolding roomName
-  its-name i l u h el eu =
-      eu ∙ rw (el, ← names-are) (sym (room-name s (r .starts) (r .rooms) i (omega (arith, a .held .few-rooms)) h))
-
-  -- the name at a kept start is the room's
-  pub kept-name : (k : ℕ) → k < r .rooms → keptName s (r .starts) k ≡ roomName s k
-  unfolding keptName
-  kept-name k h = rw (lt-ltb k (length (r .starts)) (omega (arith, a .held .few-rooms))) (its-name k _ _ h refl refl)
 
   pub rooms-told : _≡_ {A = Rooms} (record { number = r .number; place = r .place; rooms = r .rooms }) (roomsOf s)
   unfolding roomsOf
@@ -138,20 +117,6 @@ module _ (s : List ℕ) (r : Layout) (sized : length (r .starts) ≡ 192) (a : A
           pub rename-by : (f : Form) (new : List ℕ) → Answers f new (rule40 (renamedForm s i w) (length o)) (renamedForm s i w) o → Answers f new (renameVerdict s i w (length o)) (renamedForm s i w) o
           unfolding renameVerdict
           rename-by f new = third-decides (layoutVerdict s) _ _ f new (renamedForm s i w) o v (verdict-accepts z) ev y
-
--- ---- captions, in order
-
-pub caption-first : (v h : List ℕ) (i : ℕ) (u : List ℕ) → hasRoom v i ≡ true → u ≡ roomName v i → (u ≡ captionOf v h i) × (0 ≡ captionNumber v h i)
-unfolding captionOf captionNumber
-caption-first v h i u p e = (rw p e, rw p)
-
-pub caption-second : (v h : List ℕ) (i : ℕ) (u : List ℕ) → hasRoom v i ≡ false → hasRoom h i ≡ true → u ≡ roomName h i → (u ≡ captionOf v h i) × (0 ≡ captionNumber v h i)
-unfolding captionOf captionNumber
-caption-second v h i u p q e = (rw (p, q) e, rw (p, q))
-
-pub caption-none : (v h : List ℕ) (i : ℕ) → hasRoom v i ≡ false → hasRoom h i ≡ false → ([] ≡ captionOf v h i) × (41 ≡ captionNumber v h i)
-unfolding captionOf captionNumber
-caption-none v h i p q = (rw (p, q), rw (p, q))
 
 -- ---- the name at a kept start
 

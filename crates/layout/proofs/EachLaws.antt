@@ -28,6 +28,10 @@ each-at P d [] h k l = absurd (omega arith)
 each-at P d (x ∷ xs) (p, h) zero l = p
 each-at P d (x ∷ xs) (p, h) (suc k) l = each-at P d xs h k (le-of-suc-le-suc l)
 
+pub each-of : {A : Type 0} (P : A → Type 0) (d : A) (xs : List A) → ((k : ℕ) → k < length xs → P (getD xs k d)) → Each P xs
+each-of P d [] h = tt
+each-of P d (x ∷ xs) h = (h zero (omega arith), each-of P d xs (λ k l. h (suc k) (omega arith)))
+
 pub each-map : {A B : Type 0} (P : A → Type 0) (Q : B → Type 0) (f : A → B) → ((x : A) → P x → Q (f x)) → (xs : List A) → Each P xs → Each Q (map f xs)
 each-map P Q f g [] h = tt
 each-map P Q f g (x ∷ xs) (p, h) = (g x p, each-map P Q f g xs h)

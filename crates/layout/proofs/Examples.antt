@@ -8,8 +8,8 @@ use Rattle.text.specs.Class.{classOf, isDigit, isBlank, isReturn, isRefused, is
 use Rattle.text.specs.Scan.{run, grow, split, keep, nonempty, words, lines}
 use Rattle.text.specs.Sound.{badAt, rule31, rule32, rules31to32}
 use Rattle.text.specs.Name.{same, lower, lowered, isName, sameName}
-use Rattle.text.specs.Count.{value, isCount}
-use Rattle.text.specs.Number.{minus, count, says, right, some, none, numberOf, fixed, width, plain, fraction, printed, sixed}
+use Rattle.number.specs.Count.{value, isCount}
+use Rattle.number.specs.Number.{minus, count, says, right, some, none, numberOf, fixed, width, plain, fraction, printed, sixed}
 use Rattle.text.specs.Written.{after, spaced, written, wordLines}
 use Rattle.text.specs.Reading.{readLines}
 use Rattle.layout.specs.Grammar.{beginlayout, roomcount, trackcount, obstaclecount, doorhookcount, donelayout, sectionOf, follows, opens, withEntry, namesOf, known, placed, entryFault, wordsOf, countRight, openFault, fault, next, finish}

@@ -13,9 +13,10 @@ use Rattle.text.specs.Class.{classOf, nameByte}
 use Rattle.text.specs.Scan.{run}
 use Rattle.text.specs.Sound.{rules31to32}
 use Rattle.text.specs.Name.{isName}
-use Rattle.text.specs.Number.{plain}
+use Rattle.number.specs.Number.{plain}
 use Rattle.text.proofs.WrittenLaws.{AllPlain, AllLines, Plain, written-read, written-sound}
-use Rattle.text.proofs.WordLaws.{name-plain, count-plain}
+use Rattle.text.proofs.WordLaws.{name-plain}
+use Rattle.number.proofs.WordLaws.{count-plain}
 use Rattle.text.specs.Reading.{Word, Line}
 use Rattle.layout.specs.Grammar.{Typed, Reading, start, readFrom, beginlayout, roomcount, trackcount, obstaclecount, doorhookcount, donelayout}
 use Rattle.layout.specs.Layout.{grammar, layoutVerdict, layoutOf, Entry, LayoutParts, partsOfTyped, partsOf, sixedParts, sixedEntry, entryLine, section, form, formText}

@@ -13,11 +13,12 @@ use Rattle.verdict.specs.Verdict.{accepted}
 use Rattle.verdict.proofs.Bools.{clash, test, decided, and-true, and-false, or-false, not-not}
 use Rattle.text.specs.Class.{within}
 use Rattle.text.specs.Name.{isName}
-use Rattle.text.specs.Count.{value, isCount}
-use Rattle.text.specs.Number.{numberOf}
-use Rattle.text.proofs.CountLaws.{count-within}
+use Rattle.number.specs.Count.{value, isCount}
+use Rattle.number.specs.Number.{numberOf}
+use Rattle.number.proofs.CountLaws.{count-within}
 use Rattle.text.specs.Reading.{Word, Line, nth}
 use Rattle.layout.specs.Grammar.{Typed, nothing, State, start, Reading, stopped, sectionOf, follows, opens, withEntry, namesOf, known, placed, entryFault, wordsOf, countRight, openFault, fault, next, finish, readFrom}
+use Rattle.layout.specs.Plain.{IsEntry}
 use Rattle.layout.proofs.EachLaws.{Each, each-more, Apart, apart-none, apart-more, names-more}
 
 -- ---- the first fault is none
@@ -25,13 +26,6 @@ use Rattle.layout.proofs.EachLaws.{Each, each-more, Apart, apart-none, 
 pub first-none : (t : Bool) (n m : ℕ) → cond t (suc n) m ≡ 0 → (t ≡ false) × (m ≡ 0)
 first-none true n m e = absurd (omega arith)
 first-none false n m e = (refl, e)
-
--- a typed entry: a name and three numbers
-pub record GoodLine (l : Line) : Type 0 where
-  pub name : isName (nth l 0) ≡ true
-  pub x : numberOf (nth l 1) .ok ≡ true
-  pub y : numberOf (nth l 2) .ok ≡ true
-  pub z : numberOf (nth l 3) .ok ≡ true
 
 module _ (st : State) (l : Line) (e : entryFault st l ≡ 0) where
   faults : (not (eqb (length l) 4) ≡ false) × ((not (isName (nth l 0)) ≡ false) × ((not (placed l) ≡ false) × ((eqb (st .sect) 2 && known (nth l 0) (namesOf (st .typed .rooms))) ≡ false)))
@@ -46,12 +40,12 @@ module _ (st : State) (l : Line) (e : entryFault st l ≡ 0) where
   pub entry-four : length l ≡ 4
   entry-four = eqb-true (length l) 4 (not-false _ (faults .0))
 
-  pub entry-good : GoodLine l
+  pub entry-good : IsEntry l
   unfolding placed
   entry-good =
       let p = and-true (numberOf (nth l 1) .ok) ((numberOf (nth l 2) .ok) && (numberOf (nth l 3) .ok)) (not-false _ (faults .1 .1 .0)) in
       let q = and-true (numberOf (nth l 2) .ok) (numberOf (nth l 3) .ok) (p .1) in
-      record { name = not-false _ (faults .1 .0); x = p .0; y = q .0; z = q .1 }
+      record { four = entry-four; name = not-false _ (faults .1 .0); x = p .0; y = q .0; z = q .1 }
 
   pub entry-new : eqb (st .sect) 2 ≡ true → known (nth l 0) (namesOf (st .typed .rooms)) ≡ false
   entry-new s = and-false (eqb (st .sect) 2) (known (nth l 0) (namesOf (st .typed .rooms))) (faults .1 .1 .1) s
@@ -108,7 +102,7 @@ open-left k l e =
     omega arith)
 
 -- where some are to come, the section is that of rooms, tracks or obstacles
-hooks-none : (k : ℕ) (w : Word) → countRight k w ≡ true → k ≡ 5 → value 0 w ≡ 0
+pub hooks-none : (k : ℕ) (w : Word) → countRight k w ≡ true → k ≡ 5 → value 0 w ≡ 0
 unfolding countRight
 hooks-none k w e h =
     let z = and-true (isCount w) (not (eqb k 5) || eqb (value 0 w) 0) e .1 in
@@ -152,15 +146,15 @@ slot-more k sect left es e s l =
     rw h (record { before = λ b. absurd (omega arith); here = λ b. omega arith; few = omega arith }))
     (λ (h : eqb sect k ≡ false). rw h (record { before = s .before; here = λ b. clash (eq-eqb sect k b) h; few = s .few }))
 
-pub column-each : (k sect : ℕ) (es : List Line) (e : Line) → Each GoodLine es → GoodLine e → Each GoodLine (cond (eqb sect k) (es ++ (e ∷ [])) es)
-column-each k sect es e h g = test (eqb sect k) (λ q. rw q (each-more GoodLine es e h g)) (λ q. rw q h)
+pub column-each : (k sect : ℕ) (es : List Line) (e : Line) → Each IsEntry es → IsEntry e → Each IsEntry (cond (eqb sect k) (es ++ (e ∷ [])) es)
+column-each k sect es e h g = test (eqb sect k) (λ q. rw q (each-more IsEntry es e h g)) (λ q. rw q h)
 
 -- ---- the reading so far
 
 pub record Good (st : State) : Type 0 where
-  pub rooms : Each GoodLine (st .typed .rooms)
-  pub tracks : Each GoodLine (st .typed .tracks)
-  pub obstacles : Each GoodLine (st .typed .obstacles)
+  pub rooms : Each IsEntry (st .typed .rooms)
+  pub tracks : Each IsEntry (st .typed .tracks)
+  pub obstacles : Each IsEntry (st .typed .obstacles)
   pub apart : Apart (namesOf (st .typed .rooms))
   pub slot2 : Slot 2 (st .sect) (st .left) (length (st .typed .rooms))
   pub slot3 : Slot 3 (st .sect) (st .left) (length (st .typed .tracks))

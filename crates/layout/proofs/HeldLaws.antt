@@ -18,14 +18,14 @@ use Rattle.verdict.proofs.Lists.{map-at}
 use Rattle.verdict.proofs.Lowest.{any-hit, any-none, any-same}
 use Rattle.text.specs.Scan.{words, lineAt}
 use Rattle.text.specs.Name.{isName, sameName}
-use Rattle.text.specs.Count.{value, isCount}
+use Rattle.number.specs.Count.{value, isCount}
 use Rattle.layout.specs.declared.Progress.{Progress}
 use Rattle.text.specs.Reading.{Word, Line, nth}
 use Rattle.layout.specs.Grammar.{namesOf, known, opens}
 use Rattle.layout.specs.Rewrite.{knownBut}
 use Rattle.layout.specs.Starts.{entryAt, held, Named, countIn, entered, movedTo, slotOf, kept}
 use Rattle.layout.proofs.EachLaws.{Each, each-at, length-names, names-at}
-use Rattle.layout.proofs.GoodLaws.{GoodLine}
+use Rattle.layout.specs.Plain.{IsEntry}
 
 -- ---- how many entries are kept, and which
 
@@ -48,9 +48,9 @@ pub room-name : (s starts : List ℕ) (n j : ℕ) → n ≤ length starts → j 
 room-name s starts n j h l =
     names-at (held s starts 0 n) j (omega (arith, held-long s starts 0 n (omega arith))) ∙ ap (λ (e : Line). nth e 0) (room-at s starts n j h l)
 
-pub rooms-named : (s starts : List ℕ) (n : ℕ) → n ≤ length starts → Each GoodLine (held s starts 0 n) → Named s starts n
+pub rooms-named : (s starts : List ℕ) (n : ℕ) → n ≤ length starts → Each IsEntry (held s starts 0 n) → Named s starts n
 rooms-named s starts n h g = record {
-  name = λ j l. rw (room-at s starts n j h l) at (each-at GoodLine [] (held s starts 0 n) g j (omega (arith, held-long s starts 0 n (omega arith))) .name);
+  name = λ j l. rw (room-at s starts n j h l) at (each-at IsEntry [] (held s starts 0 n) g j (omega (arith, held-long s starts 0 n (omega arith))) .name);
 }
 
 -- ---- one of them has a name

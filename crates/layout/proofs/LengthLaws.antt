@@ -4,10 +4,10 @@ use mathlib.Core.List.{List, [], _∷_, _++_, map, append-assoc}
 use Prim.Native.Nat.{ℕ, zero, suc, _+_, _*_, _≤_, _<_}
 use native.Mathlib.Omega.{arith}
 use lib.ListN.{length, length-append}
-use Rattle.text.specs.declared.Num.{Num}
-use Rattle.text.specs.Number.{printed, plain, sixed}
+use Rattle.number.specs.declared.Num.{Num}
+use Rattle.number.specs.Number.{printed, plain, sixed}
 use Rattle.text.specs.Written.{after, spaced, written}
-use Rattle.text.proofs.DigitLaws.{plain-short, printed-short}
+use Rattle.number.proofs.DigitLaws.{plain-short, printed-short}
 use Rattle.text.proofs.NameLaws.{name-long}
 use Rattle.text.specs.Reading.{Word, Line}
 use Rattle.layout.specs.Grammar.{beginlayout, roomcount, trackcount, obstaclecount, doorhookcount, donelayout}

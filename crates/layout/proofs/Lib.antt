@@ -1,6 +1,10 @@
 pub mod EachLaws
 pub mod GoodLaws
 pub mod ReadLaws
+pub mod Accepts
+pub mod EntryLaws
+pub mod SectionLaws
+pub mod PlainLaws
 pub mod PartLaws
 pub mod FormLaws
 pub mod LengthLaws
@@ -14,8 +18,5 @@ pub mod ScanLaws
 pub mod PrintLaws
 pub mod WholeLaws
 pub mod AnswerLaws
-pub mod PlaceLaws
-pub mod RoomLaws
-pub mod CaptionPart
 pub mod Promises
 pub mod Examples

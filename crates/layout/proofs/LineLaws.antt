@@ -8,11 +8,11 @@ use lib.Dec.{eqb, leb, ltb}
 use lib.ListN.{length}
 use borrow.Author.Tests.{eqb-true, eq-eqb, ne-eqb, le-leb, lt-leb, lt-ltb, le-ltb}
 use Rattle.verdict.proofs.Bools.{clash, test, same-test}
-use Rattle.text.specs.declared.Num.{Num}
+use Rattle.number.specs.declared.Num.{Num}
 use Rattle.text.specs.Class.{within}
 use Rattle.text.specs.Name.{same, isName}
-use Rattle.text.specs.Count.{value, isCount}
-use Rattle.text.specs.Number.{numberOf}
+use Rattle.number.specs.Count.{value, isCount}
+use Rattle.number.specs.Number.{numberOf}
 use Rattle.text.specs.Reading.{Word, Line, nth}
 use Rattle.layout.specs.Grammar.{State, sectionOf, follows, opens, placed, wordsOf, countRight, openFault, entryFault, fault, namesOf, known, beginlayout, roomcount, trackcount, obstaclecount, doorhookcount, donelayout}
 use Rattle.layout.specs.Starts.{countIn}

@@ -6,18 +6,19 @@ use Prim.Native.Nat.{ℕ, zero, suc, _≤_, _<_}
 use native.Mathlib.Omega.{arith}
 use lib.ListN.{length, getD, length-map}
 use Rattle.verdict.proofs.Lists.{map-at}
-use Rattle.text.specs.declared.Num.{Num}
+use Rattle.number.specs.declared.Num.{Num}
 use Rattle.text.specs.Name.{isName, lowered, sameName}
-use Rattle.text.specs.Number.{numberOf, printed, sixed, Said}
+use Rattle.number.specs.Number.{numberOf, printed, sixed, Said}
 use Rattle.text.proofs.NameLaws.{name-lowered, lowered-again, same-name-lowered, same-name-sym}
-use Rattle.text.proofs.NumberTrip.{read-said, sixed-read, sixed-again}
+use Rattle.number.proofs.NumberTrip.{read-said, sixed-read, sixed-again}
 use Rattle.text.proofs.WrittenLaws.{AllPlain}
-use Rattle.text.proofs.WordLaws.{name-plain, number-plain}
+use Rattle.text.proofs.WordLaws.{name-plain}
+use Rattle.number.proofs.WordLaws.{number-plain}
 use Rattle.text.specs.Reading.{Word, Line, nth}
 use Rattle.layout.specs.Grammar.{Typed, namesOf}
 use Rattle.layout.specs.Layout.{layoutOf, Entry, LayoutParts, entryOf, partsOfTyped, partsOf, sixedEntry, sixedParts, entryLine}
 use Rattle.layout.proofs.EachLaws.{Each, each-map, Apart, length-names}
-use Rattle.layout.proofs.GoodLaws.{GoodLine}
+use Rattle.layout.specs.Plain.{IsEntry}
 use Rattle.layout.proofs.ReadLaws.{GoodTyped, layout-good}
 
 -- the names of entries
@@ -43,7 +44,7 @@ pub record GoodParts (p : LayoutParts) : Type 0 where
 
 -- ---- the parts of a text are right
 
-entry-of-good : (l : Line) → GoodLine l → GoodEntry (entryOf l)
+entry-of-good : (l : Line) → IsEntry l → GoodEntry (entryOf l)
 unfolding entryOf
 entry-of-good l g = record {
   name = name-lowered (nth l 0) (g .name);
@@ -70,9 +71,9 @@ lowered-apart names a = record {
 pub good-parts : (t : Typed) → GoodTyped t → GoodParts (partsOfTyped t)
 unfolding partsOfTyped
 good-parts t g = record {
-  rooms = each-map GoodLine GoodEntry entryOf entry-of-good (t .rooms) (g .rooms);
-  tracks = each-map GoodLine GoodEntry entryOf entry-of-good (t .tracks) (g .tracks);
-  obstacles = each-map GoodLine GoodEntry entryOf entry-of-good (t .obstacles) (g .obstacles);
+  rooms = each-map IsEntry GoodEntry entryOf entry-of-good (t .rooms) (g .rooms);
+  tracks = each-map IsEntry GoodEntry entryOf entry-of-good (t .tracks) (g .tracks);
+  obstacles = each-map IsEntry GoodEntry entryOf entry-of-good (t .obstacles) (g .obstacles);
   apart = rw (names-lowered (t .rooms)) (lowered-apart (namesOf (t .rooms)) (g .apart));
   few-rooms = rw (length-map (t .rooms) entryOf) (g .few-rooms);
   few-tracks = rw (length-map (t .tracks) entryOf) (g .few-tracks);
@@ -89,9 +90,9 @@ number-ok : (x : Num) → Said x → numberOf (printed (sixed x)) .ok ≡ true
 unfolding sixed
 number-ok x s = ap (λ (y : Num). y .ok) (sixed-read x s) ∙ s .right
 
-pub line-good : (e : Entry) → GoodEntry e → GoodLine (entryLine e)
+pub line-good : (e : Entry) → GoodEntry e → IsEntry (entryLine e)
 unfolding entryLine
-line-good e g = record { name = g .name; x = number-ok (e .x) (g .x); y = number-ok (e .y) (g .y); z = number-ok (e .z) (g .z) }
+line-good e g = record { four = refl; name = g .name; x = number-ok (e .x) (g .x); y = number-ok (e .y) (g .y); z = number-ok (e .z) (g .z) }
 
 pub line-plain : (e : Entry) → GoodEntry e → AllPlain (entryLine e)
 unfolding entryLine

@@ -12,10 +12,10 @@ use lib.Seq.{take-suc, take-all}
 use borrow.Author.Tests.{eqb-true, eqb-false, eq-eqb, ne-eqb}
 use Rattle.verdict.proofs.Bools.{test, decided}
 use Rattle.verdict.proofs.Lists.{map-at}
-use Rattle.text.specs.declared.Num.{Num}
+use Rattle.number.specs.declared.Num.{Num}
 use Rattle.text.specs.Scan.{words, lineAt}
 use Rattle.text.specs.Name.{isName, lowered}
-use Rattle.text.specs.Number.{numberOf, printed, plain, sixed}
+use Rattle.number.specs.Number.{numberOf, printed, plain, sixed}
 use Rattle.text.specs.Write.{Wrote}
 use Rattle.text.specs.Written.{after, spaced, written}
 use Rattle.text.proofs.NameLaws.{name-long, length-lowered}

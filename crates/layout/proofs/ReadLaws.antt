@@ -17,14 +17,15 @@ use Rattle.text.specs.Reading.{Word, Line, nth}
 use Rattle.layout.specs.Grammar.{Typed, nothing, State, start, Reading, stopped, namesOf, fault, next, finish, layoutGrammar, readFrom}
 use Rattle.layout.specs.Layout.{grammar, layoutVerdict, layoutOf}
 use Rattle.layout.proofs.EachLaws.{Each, Apart, apart-none}
-use Rattle.layout.proofs.GoodLaws.{GoodLine, Good, good-start, good-next}
+use Rattle.layout.specs.Plain.{IsEntry}
+use Rattle.layout.proofs.GoodLaws.{Good, good-start, good-next}
 
 -- ---- what was read
 
 pub record GoodTyped (t : Typed) : Type 0 where
-  pub rooms : Each GoodLine (t .rooms)
-  pub tracks : Each GoodLine (t .tracks)
-  pub obstacles : Each GoodLine (t .obstacles)
+  pub rooms : Each IsEntry (t .rooms)
+  pub tracks : Each IsEntry (t .tracks)
+  pub obstacles : Each IsEntry (t .obstacles)
   pub apart : Apart (namesOf (t .rooms))
   pub few-rooms : length (t .rooms) ≤ 64
   pub few-tracks : length (t .tracks) ≤ 64

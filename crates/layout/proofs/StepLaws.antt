@@ -13,7 +13,7 @@ use lib.Seq.{take-suc-set, drop-set-add, drop-set-lt, take-set-le}
 use borrow.Author.Tests.{eqb-true, eqb-false, ltb-true, ltb-false}
 use Rattle.verdict.proofs.Bools.{test, decided}
 use Rattle.text.specs.Class.{within}
-use Rattle.text.specs.Count.{value, isCount}
+use Rattle.number.specs.Count.{value, isCount}
 use Rattle.layout.specs.declared.Progress.{Progress}
 use Rattle.text.specs.Reading.{Word, Line, nth}
 use Rattle.layout.specs.Grammar.{State, withEntry, opens, wordsOf, openFault, fault, next}

@@ -14,7 +14,7 @@ use Rattle.verdict.specs.Output.{over, formAnswer, formMemory}
 use Rattle.verdict.proofs.Output.{form-refused, form-written}
 use Rattle.verdict.proofs.Verdict.{then-next, then-stop}
 use Rattle.text.specs.Name.{isName, lowered}
-use Rattle.text.specs.Number.{plain}
+use Rattle.number.specs.Number.{plain}
 use Rattle.text.specs.Write.{Wrote}
 use Rattle.text.specs.Written.{spaced, after, written}
 use Rattle.text.proofs.WriteLaws.{wrote-then, wrote-whole, dry-run}
@@ -25,7 +25,7 @@ use Rattle.layout.specs.Layout.{layoutOf, Entry, LayoutParts, entryOf, p
 use Rattle.layout.specs.Rewrite.{renamedAt, renamed, renamedForm, rule40}
 use Rattle.layout.specs.Starts.{entryAt, held, NamedFrom, Held}
 use Rattle.layout.proofs.EachLaws.{Each, each-at}
-use Rattle.layout.proofs.GoodLaws.{GoodLine}
+use Rattle.layout.specs.Plain.{IsEntry}
 use Rattle.layout.proofs.ReadLaws.{layout-good}
 use Rattle.layout.proofs.HeldLaws.{held-long, held-at}
 use Rattle.layout.proofs.LengthLaws.{written-append, written-long, head-short}
@@ -50,11 +50,11 @@ key-end key h w = omega (arith, w .next, written-one (key ∷ []), key-long key)
 
 -- ---- the entries that the code keeps have names
 
-pub named-from : (s starts : List ℕ) (from n : ℕ) (es : List Line) → from + n ≤ length starts → held s starts from n ≡ es → Each GoodLine es → NamedFrom s starts from n
+pub named-from : (s starts : List ℕ) (from n : ℕ) (es : List Line) → from + n ≤ length starts → held s starts from n ≡ es → Each IsEntry es → NamedFrom s starts from n
 named-from s starts from n es h e g = record {
   name = λ j l.
       let k : j < length es = omega (arith, ap length e, held-long s starts from n h) in
-      rw (← e, held-at s starts from n j h l) at (each-at GoodLine [] es g j k .name);
+      rw (← e, held-at s starts from n j h l) at (each-at IsEntry [] es g j k .name);
 }
 
 -- what a printer of a section asks

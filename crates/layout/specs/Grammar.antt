@@ -10,8 +10,8 @@ use Rattle.verdict.specs.Verdict.{refused, accepted}
 use Rattle.verdict.specs.Lowest.{anyUnder}
 use Rattle.text.specs.Class.{within}
 use Rattle.text.specs.Name.{same, isName, sameName}
-use Rattle.text.specs.Count.{value, isCount}
-use Rattle.text.specs.Number.{numberOf}
+use Rattle.number.specs.Count.{value, isCount}
+use Rattle.number.specs.Number.{numberOf}
 use Rattle.text.specs.Reading.{Word, Line, nth, Grammar, readLines}
 
 -- ---- keywords, in lower case

@@ -6,10 +6,10 @@ use lib.ListN.{length}
 use lib.Dec.{eqb}
 use Rattle.verdict.specs.declared.Answer.{Answer}
 use Rattle.verdict.specs.Verdict.{_then_}
-use Rattle.text.specs.declared.Num.{Num}
+use Rattle.number.specs.declared.Num.{Num}
 use Rattle.text.specs.Sound.{rules31to32}
 use Rattle.text.specs.Name.{lowered}
-use Rattle.text.specs.Number.{numberOf, printed, plain, sixed}
+use Rattle.number.specs.Number.{numberOf, printed, plain, sixed}
 use Rattle.text.specs.Written.{written, wordLines}
 use Rattle.text.specs.Reading.{Word, Line, nth}
 use Rattle.layout.specs.Grammar.{Typed, nothing, Reading, readFrom, start, beginlayout, roomcount, trackcount, obstaclecount, doorhookcount, donelayout}

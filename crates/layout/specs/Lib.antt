@@ -1,5 +1,5 @@
 pub mod Grammar
 pub mod Layout
+pub mod Plain
 pub mod Rewrite
-pub mod Caption
 pub mod Starts

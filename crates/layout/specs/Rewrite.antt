@@ -8,7 +8,7 @@ use Rattle.verdict.specs.declared.Answer.{Answer}
 use Rattle.verdict.specs.Lowest.{anyUnder}
 use Rattle.verdict.specs.Verdict.{rule, _then_}
 use Rattle.text.specs.Name.{isName, lowered, sameName}
-use Rattle.text.specs.Number.{numberOf}
+use Rattle.number.specs.Number.{numberOf}
 use Rattle.layout.specs.declared.Rooms.{Rooms}
 use Rattle.text.specs.Reading.{Word, Line, nth}
 use Rattle.layout.specs.Grammar.{namesOf}

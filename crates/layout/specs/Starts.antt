@@ -9,7 +9,7 @@ use lib.Dec.{ltb, eqb}
 use Rattle.verdict.specs.declared.Answer.{Answer}
 use Rattle.text.specs.Scan.{words, lineAt}
 use Rattle.text.specs.Name.{isName}
-use Rattle.text.specs.Count.{value, isCount}
+use Rattle.number.specs.Count.{value, isCount}
 use Rattle.layout.specs.declared.Progress.{Progress}
 use Rattle.layout.specs.declared.Layout.{Layout}
 use Rattle.text.specs.Reading.{Word, Line, nth}

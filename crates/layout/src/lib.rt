@@ -1,4 +1,4 @@
-// Layouts (LYT): read, rewritten, with another name for a room, and captions.
+// Layouts (LYT): read, rewritten, and with another name for a room.
 use text::is_name;
 use text::line_at;
 use text::line_end;
@@ -13,11 +13,9 @@ ghost use Rattle.text.specs.Scan.{lines};
 ghost use Rattle.layout.specs.Grammar.{opens};
 ghost use Rattle.layout.specs.Layout.{grammar, partsOf, section, formText};
 ghost use Rattle.layout.specs.Rewrite.{renamedForm, rewriteVerdict, nameVerdict, renameVerdict, roomsOf};
-ghost use Rattle.layout.specs.Caption.{captionOf, captionNumber, captionAt};
 ghost use Rattle.layout.specs.Starts.{kept, keptName, Found, Answered};
 
 mod lines;
-mod place;
 mod print;
 
 // What the reader keeps between two lines: the section, how many of its entries are to come, and how many entries of each kind there are.
@@ -196,60 +194,4 @@ pub fn room_name<'a>(text: &'a [u8], starts: &[usize], k: usize) -> &'a [u8]
         return word(line_at(text, starts[k]), 0);
     }
     &text[..0]
-}
-
-// Room i's name: a part of the visitor's text, otherwise of the house text, else 41 and the empty start of the house text.
-pub fn caption<'a>(visitor: &'a [u8], house: &'a [u8], room: u32, number: &mut u32) -> &'a [u8]
-    ensures part { λ r. ⌜ now r ≡ captionOf (now (visitor .entry)) (now (house .entry)) room ⌝ }
-    ensures told { λ _. ⌜ now (number .exit) ≡ captionNumber (now (visitor .entry)) (now (house .entry)) room ⌝ }
-{
-    let i = room as usize;
-    let v = read(visitor);
-    if i < v.rooms {
-        *number = 0;
-        let at = v.starts[i];
-        return word(line_at(visitor, at), 0);
-    }
-    let h = read(house);
-    if i < h.rooms {
-        *number = 0;
-        let at = h.starts[i];
-        return word(line_at(house, at), 0);
-    }
-    *number = 41;
-    &house[..0]
-}
-
-// ---- where a caption stands
-
-// A caption as a place: its number, whether it is a part of the house text, where it starts there, and its length.
-#[repr(C)]
-pub struct CaptionAt {
-    pub number: u32,
-    pub house: u32,
-    pub start: u32,
-    pub length: u32,
-}
-
-// The caption as a place in one of the two texts.
-pub fn caption_at(visitor: &[u8], house: &[u8], room: u32) -> CaptionAt
-    ensures { λ r. ⌜ r ≡ captionAt (now (visitor .entry)) (now (house .entry)) room ⌝ }
-{
-    let i = room as usize;
-    let v = read(visitor);
-    if i < v.rooms {
-        let at = v.starts[i];
-        return place::found_in(visitor, word(line_at(visitor, at), 0), 0);
-    }
-    let h = read(house);
-    if i < h.rooms {
-        let at = h.starts[i];
-        return place::found_in(house, word(line_at(house, at), 0), 1);
-    }
-    CaptionAt {
-        number: 41,
-        house: 1,
-        start: 0,
-        length: 0,
-    }
 }

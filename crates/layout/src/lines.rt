@@ -73,9 +73,9 @@ pub(crate) fn opened(sect: usize, w: &[u8]) -> usize
 pub(crate) fn count_right(k: usize, w: &[u8]) -> bool
     ensures { λ r. ⌜ r ≡ countRight k (now (w .entry)) ⌝ }
 {
-    if text::is_count(w) {
+    if number::is_count(w) {
         if k == 5 {
-            return text::count_of(w) == 0;
+            return number::count_of(w) == 0;
         }
         return true;
     }
@@ -119,8 +119,8 @@ pub(crate) fn open_fault(k: usize, l: &[u8]) -> u32
 pub(crate) fn count_in(w: &[u8]) -> usize
     ensures { λ r. ⌜ r ≡ countIn (now (w .entry)) ⌝ }
 {
-    if text::is_count(w) {
-        return text::count_of(w);
+    if number::is_count(w) {
+        return number::count_of(w);
     }
     0
 }
@@ -129,9 +129,9 @@ pub(crate) fn count_in(w: &[u8]) -> usize
 pub(crate) fn is_placed(l: &[u8]) -> bool
     ensures { λ r. ⌜ r ≡ placed (words (now (l .entry))) ⌝ }
 {
-    if text::number(word(l, 1)).ok {
-        if text::number(word(l, 2)).ok {
-            return text::number(word(l, 3)).ok;
+    if number::number(word(l, 1)).ok {
+        if number::number(word(l, 2)).ok {
+            return number::number(word(l, 3)).ok;
         }
         return false;
     }

@@ -11,7 +11,7 @@ ghost use lib.ListN.{length};
 ghost use Rattle.verdict.specs.Output.{formAnswer, formMemory};
 ghost use Rattle.text.specs.Scan.{words, lines};
 ghost use Rattle.text.specs.Name.{lowered};
-ghost use Rattle.text.specs.Number.{numberOf, printed, plain, sixed};
+ghost use Rattle.number.specs.Number.{numberOf, printed, plain, sixed};
 ghost use Rattle.text.specs.Write.{Wrote};
 ghost use Rattle.text.specs.Written.{written};
 ghost use Rattle.text.specs.Reading.{nth};
@@ -24,9 +24,9 @@ pub(crate) fn put_coordinate(out: &mut [u8], at: usize, l: &[u8], k: usize) -> u
     requires { ⌜ at < 2 ^ 29 ⌝ }
     ensures { λ r. ⌜ Wrote (now (out .entry)) (now (out .exit)) at r (32 ∷ printed (sixed (numberOf (nth (words (now (l .entry))) k)))) ⌝ }
 {
-    let x = text::number(word(l, k));
+    let x = number::number(word(l, k));
     let e = text::put_byte(out, at, 32);
-    text::put_number(out, e, text::with_six(x))
+    number::put_number(out, e, number::with_six(x))
 }
 
 // An entry's line with a name: the name in lower case, the line's three numbers, LF.
@@ -93,7 +93,7 @@ pub(crate) fn put_head(out: &mut [u8], at: usize, key: &[u8], n: usize) -> usize
 {
     let a = text::put_word(out, at, key);
     let b = text::put_byte(out, a, 32);
-    let c = text::put_plain(out, b, n as u64);
+    let c = number::put_plain(out, b, n as u64);
     text::put_byte(out, c, 10)
 }
 

@@ -9,7 +9,7 @@ use lib.ListN.{length, getD, set}
 use borrow.Author.Tests.{eq-eqb, ne-eqb, eqb-false, lt-ltb, le-ltb, not-false}
 use Rattle.verdict.proofs.Bools.{test}
 use Rattle.text.specs.Name.{isName}
-use Rattle.text.specs.Count.{value, isCount}
+use Rattle.number.specs.Count.{value, isCount}
 use Rattle.text.specs.Reading.{Word, Line, nth}
 use Rattle.sight.specs.declared.Looking.{Looking}
 use Rattle.sight.specs.Rows.{sees, withMark}

@@ -8,6 +8,9 @@ pub mod LowLaws
 pub mod RowsGood
 pub mod TurnLaws
 pub mod SightLaws
+pub mod FreshLaws
+pub mod BlockLaws
+pub mod PlainLaws
 pub mod AnswerLaws
 pub mod SightForm
 pub mod SightTrip

@@ -16,12 +16,12 @@ use Rattle.verdict.specs.Verdict.{refused, rule}
 use Rattle.verdict.proofs.Bools.{test, decided}
 use Rattle.verdict.proofs.Lists.{map-at}
 use Rattle.text.specs.Name.{isName, lowered}
-use Rattle.text.specs.Number.{plain}
+use Rattle.number.specs.Number.{plain}
 use Rattle.text.specs.Write.{Wrote}
 use Rattle.text.specs.Written.{spaced, after}
 use Rattle.text.specs.Reading.{Word}
 use Rattle.text.proofs.NameLaws.{length-lowered}
-use Rattle.text.proofs.DigitLaws.{plain-short}
+use Rattle.number.proofs.DigitLaws.{plain-short}
 use Rattle.text.proofs.WriteLaws.{wrote-none, wrote-then, dry-run}
 use Rattle.layout.specs.Starts.{Named, keptName}
 use Rattle.layout.specs.Rewrite.{rule40}

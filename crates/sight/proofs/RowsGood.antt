@@ -14,8 +14,8 @@ use borrow.Author.Tests.{eqb-true, eqb-false, ltb-true, not-false}
 use Rattle.verdict.specs.Verdict.{accepted}
 use Rattle.verdict.proofs.Bools.{test, decided}
 use Rattle.text.specs.Name.{isName}
-use Rattle.text.specs.Count.{value, isCount}
-use Rattle.text.proofs.CountLaws.{count-within}
+use Rattle.number.specs.Count.{value, isCount}
+use Rattle.number.proofs.CountLaws.{count-within}
 use Rattle.text.proofs.ReadingLaws.{read-next, read-stop, read-end}
 use Rattle.text.specs.Reading.{Word, Line, nth, readLines}
 use Rattle.text.specs.Written.{wordLines}

@@ -17,7 +17,7 @@ use Rattle.text.specs.Sound.{rules31to32}
 use Rattle.layout.specs.Layout.{layoutVerdict, layoutOf}
 use Rattle.layout.specs.Rewrite.{roomNames}
 use Rattle.layout.proofs.EachLaws.{Apart, each-at, length-names, names-at}
-use Rattle.layout.proofs.GoodLaws.{GoodLine}
+use Rattle.layout.specs.Plain.{IsEntry}
 use Rattle.layout.proofs.ReadLaws.{layout-good, sound-proper, verdict-proper}
 use Rattle.sight.specs.Rows.{noRows}
 use Rattle.sight.specs.Sight.{grammar, sightVerdict, rowsOf, sightOf}
@@ -38,7 +38,7 @@ pub names-right : (layout : List ℕ) (j : ℕ) → j < length (roomNames layout
 unfolding roomNames
 names-right layout j l =
     let m : j < length (layoutOf layout .rooms) = omega (arith, length-names (layoutOf layout .rooms)) in
-    rw (names-at (layoutOf layout .rooms) j m) (each-at GoodLine [] (layoutOf layout .rooms) (layout-good layout .rooms) j m .name)
+    rw (names-at (layoutOf layout .rooms) j m) (each-at IsEntry [] (layoutOf layout .rooms) (layout-good layout .rooms) j m .name)
 
 module _ (layout s : List ℕ) where
   names-sane : Sane (length (roomNames layout)) (grammar (roomNames layout) s)

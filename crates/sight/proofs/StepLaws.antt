@@ -5,7 +5,7 @@ use Prim.Native.Nat.{ℕ, zero, suc, _-_, _≤_, _<_}
 use native.Mathlib.Omega.{arith}
 use lib.ListN.{length, getD, set}
 use borrow.Author.Tests.{lt-ltb, le-ltb}
-use Rattle.text.specs.Count.{value}
+use Rattle.number.specs.Count.{value}
 use Rattle.text.specs.Reading.{Word, Line, nth}
 use Rattle.sight.specs.declared.Looking.{Looking}
 use Rattle.sight.specs.Rows.{withMark}

@@ -10,7 +10,7 @@ use borrow.Author.Tests.{eq-eqb, ne-eqb, lt-ltb, le-ltb, ltb-false}
 use Rattle.verdict.specs.Verdict.{accepted}
 use Rattle.verdict.proofs.Bools.{test}
 use Rattle.text.specs.Class.{isEnd}
-use Rattle.text.specs.Count.{isCount}
+use Rattle.number.specs.Count.{isCount}
 use Rattle.text.specs.Scan.{run, apart, words, lineAt}
 use Rattle.text.specs.Reading.{Word, Line, nth, readLines}
 use Rattle.text.specs.Written.{wordLines}

@@ -3,3 +3,4 @@ pub mod Grammar
 pub mod Sight
 pub mod Rewrite
 pub mod Code
+pub mod Plain

@@ -7,7 +7,7 @@ use lib.Dec.{eqb}
 use lib.ListN.{length, getD}
 use Rattle.verdict.specs.declared.Answer.{Answer}
 use Rattle.verdict.specs.Verdict.{_then_}
-use Rattle.text.specs.Number.{plain}
+use Rattle.number.specs.Number.{plain}
 use Rattle.text.specs.Sound.{rules31to32}
 use Rattle.text.specs.Written.{spaced, wordLines}
 use Rattle.text.specs.Reading.{Word, readLines}

@@ -1,7 +1,7 @@
 // A line of visibility: the room that it names, what is wrong with it, and what it adds.
 use super::Looking;
 use layout::room_name;
-use text::is_count;
+use number::is_count;
 use text::is_name;
 use text::word;
 use text::word_count;
@@ -11,7 +11,7 @@ ghost use Prim.Native.Nat.{_+_, _<_, _≤_};
 ghost use lib.ListN.{length, getD};
 ghost use Rattle.text.specs.Scan.{words};
 ghost use Rattle.text.specs.Name.{isName};
-ghost use Rattle.text.specs.Count.{isCount};
+ghost use Rattle.number.specs.Count.{isCount};
 ghost use Rattle.text.specs.Reading.{nth};
 ghost use Rattle.layout.specs.Starts.{Named};
 ghost use Rattle.sight.specs.Rows.{sees, withMark};
@@ -132,7 +132,7 @@ pub(crate) fn moved(st: Looking, room: usize, l: &[u8]) -> Looking
             told: st.told,
         };
     }
-    let left = text::count_of(word(l, 1));
+    let left = number::count_of(word(l, 1));
     let told = with_mark(st.told, room);
     Looking {
         observer: room,

@@ -121,7 +121,7 @@ pub(crate) fn put_room(
     let seen = u64::count_ones(row);
     let a = put_name(out, at, layout, starts, k, i, name);
     let b = put_byte(out, a, 32);
-    let c = text::put_plain(out, b, seen as u64);
+    let c = number::put_plain(out, b, seen as u64);
     let d = put_byte(out, c, 10);
     put_seen(out, d, layout, starts, n, row, i, name)
 }

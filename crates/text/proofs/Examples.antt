@@ -1,37 +1,9 @@
--- Worked examples, computed. Assumes nothing.
+-- A worked example, computed. Assumes nothing.
 use mathlib.Core.Path.{_≡_, refl}
-use mathlib.Core.Bool.{true, false}
 use mathlib.Core.List.{[], _∷_}
-use Rattle.text.specs.Class.{classOf, isDigit, isBlank, isReturn, isGap, isEnd}
-use Rattle.text.specs.Scan.{run, grow, split, keep, nonempty, words, lines}
-use Rattle.text.specs.Name.{lower, lowered}
-use Rattle.text.specs.Count.{value}
-use Rattle.text.specs.Number.{minus, count, says, right, some, none, numberOf, fixed, width, plain, fraction, printed, sixed}
-use Rattle.text.specs.Written.{after, spaced, wordLines}
-
--- `1.5`
-one-and-half : numberOf (49 ∷ 46 ∷ 53 ∷ []) ≡ record { ok = true; neg = false; millionths = 1500000; places = 1 }
-unfolding numberOf classOf isDigit run value minus count says right some none
-one-and-half = refl
-
--- `-0` has no minus
-minus-nought : numberOf (45 ∷ 48 ∷ []) ≡ record { ok = true; neg = false; millionths = 0; places = 0 }
-unfolding numberOf classOf isDigit run value minus count says right some none
-minus-nought = refl
-
--- `1.` is no number
-no-digits : numberOf (49 ∷ 46 ∷ []) ≡ record { ok = false; neg = false; millionths = 0; places = 0 }
-unfolding numberOf classOf isDigit run value minus count says right some none
-no-digits = refl
-
--- the case of the paper: room `Hall 1.5 0 -0` is written `hall 1.500000 0.000000 0.000000`
-hall : spaced (
-    lowered (72 ∷ 97 ∷ 108 ∷ 108 ∷ []) ∷ printed (sixed (numberOf (49 ∷ 46 ∷ 53 ∷ []))) ∷ printed (sixed (numberOf (48 ∷ [])))
-    ∷ printed (sixed (numberOf (45 ∷ 48 ∷ []))) ∷ [])
-    ≡ 104 ∷ 97 ∷ 108 ∷ 108 ∷ 32 ∷ 49 ∷ 46 ∷ 53 ∷ 48 ∷ 48 ∷ 48 ∷ 48 ∷ 48 ∷ 32 ∷ 48 ∷ 46 ∷ 48 ∷ 48 ∷ 48 ∷ 48 ∷ 48 ∷ 48 ∷ 32 ∷ 48 ∷ 46 ∷ 48
-    ∷ 48 ∷ 48 ∷ 48 ∷ 48 ∷ 48 ∷ []
-unfolding spaced after lowered lower sixed printed plain fixed width fraction numberOf classOf isDigit run value minus count says right some none
-hall = refl
+use Rattle.text.specs.Class.{classOf, isBlank, isReturn, isGap, isEnd}
+use Rattle.text.specs.Scan.{grow, split, keep, nonempty, words, lines}
+use Rattle.text.specs.Written.{wordLines}
 
 -- `a  b`, CR LF, a blank line, `c` with no LF: three lines
 three-lines : wordLines (97 ∷ 32 ∷ 9 ∷ 98 ∷ 13 ∷ 10 ∷ 32 ∷ 10 ∷ 99 ∷ []) ≡ ((97 ∷ []) ∷ (98 ∷ []) ∷ []) ∷ [] ∷ ((99 ∷ []) ∷ []) ∷ []

@@ -4,11 +4,7 @@ pub mod NameLaws
 pub mod SoundLaws
 pub mod SplitLaws
 pub mod ReadingLaws
-pub mod DigitLaws
-pub mod NumberLaws
-pub mod DecimalLaws
-pub mod NumberTrip
-pub mod CountLaws
+pub mod AcceptLaws
 pub mod WriteLaws
 pub mod WrittenLaws
 pub mod WordLaws

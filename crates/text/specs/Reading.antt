@@ -16,6 +16,12 @@ Line = List Word
 abbrev pub nth : Line → ℕ → Word
 nth l k = getD l k []
 
+-- the lines that have a word: blank lines are skipped
+unfoldable pub spoken : List Line → List Line
+spoken [] = []
+spoken ([] ∷ ls) = spoken ls
+spoken ((w ∷ ws) ∷ ls) = (w ∷ ws) ∷ spoken ls
+
 -- what is wrong with a line, 0 for nothing; the state behind a line that has no fault; what is read where no line is left, by the number
 -- of lines; and what is read where a line has a fault, by the fault and the line, counted from 1
 pub record Grammar (S R : Type 0) : Type 0 where

@@ -70,7 +70,7 @@ fn spelled(s: &[u8], out: &mut [u8]) -> usize {
 
 // A whole number below 65,536, 0 where there is none.
 fn numeral(w: &[u8]) -> u32 {
-    (text::number(w).millionths / 1000000 % 65536) as u32
+    (number::number(w).millionths / 1000000 % 65536) as u32
 }
 
 // The call, and what the case shows.
@@ -104,7 +104,7 @@ fn form(call: &[u8], what: &[u8], f: Form, out: &[u8]) {
 // A room's caption: the number, the length, and the part of the text on a line of its own.
 fn caption<'a>(call: &[u8], what: &[u8], visitor: &'a [u8], house: &'a [u8], room: u32) {
     let mut told: u32 = 0;
-    let part = layout::caption(visitor, house, room, &mut told);
+    let part = caption::caption(visitor, house, room, &mut told);
     shows(call, what);
     number(told);
     gap();

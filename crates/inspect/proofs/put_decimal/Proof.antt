@@ -5,7 +5,7 @@ use mathlib.Core.Path.{_≡_}
 use Prim.Native.Nat.{_+_}
 use native.Mathlib.Nat.{add-comm}
 use Rattle.inspect.specs.Line.{digitCount, decimal}
-use Rattle.text.proofs.DigitLaws.{length-fixed}
+use Rattle.number.proofs.DigitLaws.{length-fixed}
 use Rattle.inspect.proofs.put_decimal.Statement.{statement}
 use Rattle.inspect.proofs.put_decimal.Tie as tie
 

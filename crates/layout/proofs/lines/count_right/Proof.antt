@@ -3,7 +3,7 @@ use mathlib.Core.Path.{_≡_, refl, sym, ap, _∙_}
 use Rattle.layout.proofs.LineLaws.{count-of-hooks, count-of-others, count-wrong}
 use Rattle.layout.specs.Grammar.{countRight}
 use Prim.Native.Nat.{ℕ}
-use Rattle.text.specs.Count.{value}
+use Rattle.number.specs.Count.{value}
 use lib.Dec.{eqb}
 use borrow.Author.Needs.{needs}
 use Rattle.layout.proofs.lines.count_right.Statement.{statement}

@@ -1,7 +1,7 @@
 -- `layout::print::put_head` meets its contract. Assumes nothing.
 use native.Mathlib.Omega.{arith}
 use Rattle.text.proofs.WriteLaws.{wrote-then}
-use Rattle.text.proofs.DigitLaws.{plain-short}
+use Rattle.number.proofs.DigitLaws.{plain-short}
 use Rattle.layout.proofs.PrintLaws.{wrote-is, head-bytes}
 use borrow.Author.Needs.{needs}
 use Rattle.layout.proofs.print.put_head.Statement.{statement}

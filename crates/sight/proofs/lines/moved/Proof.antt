@@ -1,7 +1,7 @@
 -- `sight::lines::moved` meets its contract. Assumes nothing.
 use mathlib.Core.Path.{_≡_, refl, sym, ap, _∙_}
 use native.Mathlib.Omega.{arith}
-use Rattle.text.specs.Count.{isCount}
+use Rattle.number.specs.Count.{isCount}
 use Rattle.sight.proofs.StepLaws.{moved-blank, moved-seen, moved-observer}
 use borrow.Author.Needs.{needs}
 use Rattle.sight.proofs.lines.moved.Statement.{statement}

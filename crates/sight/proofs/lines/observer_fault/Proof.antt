@@ -1,7 +1,7 @@
 -- `sight::lines::observer_fault` meets its contract. Assumes nothing.
 use mathlib.Core.Path.{_≡_, refl, sym, ap, _∙_}
 use Rattle.text.specs.Name.{isName}
-use Rattle.text.specs.Count.{isCount}
+use Rattle.number.specs.Count.{isCount}
 use Rattle.sight.proofs.FaultLaws.{observer-33, observer-34, observer-36, observer-room}
 use borrow.Author.Needs.{needs}
 use Rattle.sight.proofs.lines.observer_fault.Statement.{statement}

@@ -4,7 +4,7 @@ use native.Mathlib.Omega.{arith}
 use Prim.Native.Nat.{ℕ, _+_, _≤_, _<_}
 use mir.Val.{Fits}
 use lib.Count.{ones, ones-le}
-use Rattle.text.proofs.DigitLaws.{plain-short}
+use Rattle.number.proofs.DigitLaws.{plain-short}
 use Rattle.sight.proofs.FindLaws.{kept-short}
 use Rattle.sight.proofs.PrintLaws.{shown-short, room-wrote}
 use borrow.Author.Needs.{needs}

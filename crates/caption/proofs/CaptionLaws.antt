@@ -1,0 +1,47 @@
+-- What the two calls answer, case by case. Assumes nothing.
+use mathlib.Core.Path.{_≡_, refl, sym, _∙_}
+use mathlib.Core.Bool.{Bool, true, false, cond, _||_}
+use mathlib.Core.List.{List, []}
+use Prim.Native.Nat.{ℕ, _≤_, _<_}
+use native.Mathlib.Omega.{arith}
+use lib.Dec.{ltb}
+use lib.ListN.{length, getD}
+use borrow.Author.Tests.{lt-ltb, le-ltb}
+use Rattle.text.specs.Scan.{words, lineAt}
+use Rattle.text.specs.Reading.{nth}
+use Rattle.layout.specs.declared.Layout.{Layout}
+use Rattle.layout.specs.Rewrite.{roomNames}
+use Rattle.layout.specs.Starts.{Answered}
+use Rattle.layout.proofs.HeldLaws.{room-name}
+use Rattle.layout.proofs.AnswerLaws.{rooms-are, names-are}
+use Rattle.caption.specs.Caption.{hasRoom, roomName, captionOf, captionNumber}
+
+-- ---- the rooms of a layout, by what the reader answered
+
+module _ (s : List ℕ) (r : Layout) (sized : length (r .starts) ≡ 192) (a : Answered s r) where
+  pub has-it : (i : ℕ) → i < r .rooms → hasRoom s i ≡ true
+  unfolding hasRoom
+  has-it i h = lt-ltb i (length (roomNames s)) (omega (arith, rooms-are s r sized a))
+
+  pub has-none : (i : ℕ) → r .rooms ≤ i → hasRoom s i ≡ false
+  unfolding hasRoom
+  has-none i h = le-ltb i (length (roomNames s)) (omega (arith, rooms-are s r sized a))
+
+  pub its-name : (i : ℕ) (l u : List ℕ) → i < r .rooms → l ≡ lineAt s (getD (r .starts) i 0) → u ≡ nth (words l) 0 → u ≡ roomName s i
+  unfolding roomName
+  its-name i l u h el eu =
+      eu ∙ rw (el, ← (names-are s r sized a)) (sym (room-name s (r .starts) (r .rooms) i (omega (arith, a .held .few-rooms)) h))
+
+-- ---- the visitor's text, then the house text
+
+pub caption-first : (v h : List ℕ) (i : ℕ) (u : List ℕ) → hasRoom v i ≡ true → u ≡ roomName v i → (u ≡ captionOf v h i) × (0 ≡ captionNumber v h i)
+unfolding captionOf captionNumber
+caption-first v h i u p e = (rw p e, rw p)
+
+pub caption-second : (v h : List ℕ) (i : ℕ) (u : List ℕ) → hasRoom v i ≡ false → hasRoom h i ≡ true → u ≡ roomName h i → (u ≡ captionOf v h i) × (0 ≡ captionNumber v h i)
+unfolding captionOf captionNumber
+caption-second v h i u p q e = (rw (p, q) e, rw (p, q))
+
+pub caption-none : (v h : List ℕ) (i : ℕ) → hasRoom v i ≡ false → hasRoom h i ≡ false → ([] ≡ captionOf v h i) × (41 ≡ captionNumber v h i)
+unfolding captionOf captionNumber
+caption-none v h i p q = (rw (p, q), rw (p, q))

@@ -1,0 +1,84 @@
+-- `caption::name_place` meets its contract. Assumes nothing.
+use mathlib.Core.Path.{_≡_, refl, sym, ap, _∙_}
+use native.Mathlib.Nat.{zero-add}
+use native.Mathlib.Omega.{arith}
+use borrow.Author.Needs.{needs}
+use mathlib.Core.Bool.{true, false}
+use Prim.Native.Nat.{ℕ, _+_, _-_, _≤_, _<_}
+use lib.ListN.{length, drop}
+use Rattle.text.specs.Class.{isEnd, isGap}
+use Rattle.text.specs.Scan.{run, lines, lineAt}
+use Rattle.text.proofs.SplitLaws.{piece-within}
+use Rattle.caption.specs.Caption.{entersAs, namePlace}
+use Rattle.caption.proofs.PlaceLaws.{place-hit, place-next, place-none, gap-within}
+use Rattle.caption.proofs.name_place.Statement.{statement}
+use Rattle.caption.proofs.name_place.Tie as tie
+
+abbrev Inv-loop : tie.InvT-loop
+Inv-loop s w at₀ at = (at ≤ length s + 1) × (namePlace w 0 (lines s) ≡ namePlace w at (lines (drop at s)))
+
+abbrev μ-loop : tie.MeasureT-loop
+μ-loop s w at₀ at = length s - at
+
+-- the name of the line that was found
+found : (c : tie.After-skip-gap Inv-loop μ-loop) → (c .before .before .before .before .before .loop .at + c .skip-gap .result ≡ namePlace (c .before .before .before .before .before .before .before .before .args .w .now) 0 (lines (c .before .before .before .before .before .before .before .before .args .s .now))) × (c .before .before .before .before .before .loop .at + c .skip-gap .result ≤ length (c .before .before .before .before .before .before .before .before .args .s .now))
+found c =
+    let l : c .skip-gap .result ≡ run isGap (lineAt (c .before .before .before .before .before .before .before .before .args .s .now) (c .before .before .before .before .before .loop .at)) = c .skip-gap .ensures ∙ zero-add _ ∙ ap (run isGap) (c .before .before .before .line-at .ensures) in
+    (place-hit _ _ _ _ (c .before .before .before .before .loop-test .taken) (ap (entersAs _) (sym (c .before .before .before .line-at .ensures)) ∙ sym (c .before .before .enters-as .ensures) ∙ c .before .if1 .taken) l ∙ sym (c .before .before .before .before .before .loop .inv .1), omega (arith, gap-within (c .before .before .before .before .before .before .before .before .args .s .now) (c .before .before .before .before .before .loop .at) (omega (arith, c .before .before .before .before .loop-test .taken))))
+
+-- a line ends within the text
+ends : (c : tie.After-line-end Inv-loop μ-loop) → (c .before .before .before .before .before .loop .at ≤ c .line-end .result) × (c .line-end .result ≤ length (c .before .before .before .before .before .before .before .before .args .s .now))
+ends c = piece-within isEnd _ _ _ (c .line-end .ensures) (omega (arith, c .before .before .before .before .loop-test .taken))
+
+loop-holds : tie.Need-loop-holds Inv-loop μ-loop
+loop-holds c = (omega arith, refl)
+
+line-at-requires : tie.Need-line-at-requires Inv-loop μ-loop
+line-at-requires c κs = search needs
+
+enters-as-requires : tie.Need-enters-as-requires Inv-loop μ-loop
+enters-as-requires c κs = search needs
+
+skip-gap-requires : tie.Need-skip-gap-requires Inv-loop μ-loop
+skip-gap-requires c κs = search needs
+
+add-result : tie.Need-add-result Inv-loop μ-loop
+add-result c = omega (arith, found c .1, c .before .before .before .before .before .before .before .before .pre)
+
+returns : tie.Need-returns Inv-loop μ-loop
+returns c = (found c .0, omega (arith, found c .1, c .before .before .before .before .before .before .before .before .pre))
+
+line-end-requires : tie.Need-line-end-requires Inv-loop μ-loop
+line-end-requires c κs = search needs
+
+add-at : tie.Need-add-at Inv-loop μ-loop
+add-at c = omega (arith, ends c, c .before .before .before .before .before .before .before .before .pre)
+
+loop-less : tie.Need-loop-less Inv-loop μ-loop
+loop-less c = omega (arith, ends c, c .before .before .before .before .loop-test .taken)
+
+loop-again : tie.Need-loop-again Inv-loop μ-loop
+loop-again c =
+    let z = c .before .before .before .before .before in
+    (omega (arith, ends c), z .loop .inv .1 ∙ place-next _ _ _ _ (c .line-end .ensures) (c .before .before .before .before .loop-test .taken) (ap (entersAs _) (sym (c .before .before .before .line-at .ensures)) ∙ sym (c .before .before .enters-as .ensures) ∙ c .before .if1 .left))
+
+returns-2 : tie.Need-returns-2 Inv-loop μ-loop
+returns-2 c = (place-none _ _ _ (c .loop-test .left) ∙ sym (c .before .loop .inv .1), omega (arith, c .before .loop .inv .0, c .before .before .before .before .pre))
+
+pub name-place-spec : {M : Type 1} → statement M
+name-place-spec =
+    tie.close
+    (tie.spec
+    Inv-loop
+    μ-loop
+    loop-holds
+    line-at-requires
+    enters-as-requires
+    skip-gap-requires
+    add-result
+    returns
+    line-end-requires
+    add-at
+    loop-less
+    loop-again
+    returns-2)

@@ -1,0 +1,7 @@
+pub mod DigitLaws
+pub mod NumberLaws
+pub mod DecimalLaws
+pub mod NumberTrip
+pub mod CountLaws
+pub mod WordLaws
+pub mod Examples

@@ -1,0 +1,16 @@
+use mathlib.Core.Path.{ap}
+use Prim.Native.Nat.{ℕ}
+use lib.Dec.{eqb}
+use Rattle.text.specs.Class.{isDigit}
+use borrow.Author.Needs.{needs}
+use Rattle.text.proofs.class.is_digit.Statement.{statement}
+use Rattle.text.proofs.class.is_digit.Tie as tie
+
+-- src/lib.rt:38:5
+-- src/lib.rt:35:1
+returns : tie.Need-returns
+unfolding isDigit
+returns c = ap (λ (k : ℕ). eqb k 2) (c .class-of .ensures)
+
+pub is-digit-spec : {M : Type 1} → statement M
+is-digit-spec = tie.close (tie.spec (search needs) returns)
