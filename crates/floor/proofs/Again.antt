@@ -17,7 +17,8 @@ use Rattle.tables.specs.Fixed.{formOf}
 use Rattle.tables.proofs.Right.{header-sound}
 use Rattle.tables.proofs.Reform.{form-accepted, form-parts, form-again, length-form, form-most}
 use Rattle.mesh.specs.Mesh.{Meshed}
-use Rattle.tree.specs.Plain.{SoundNodes, FloorTree, BoxesHold}
+use Rattle.nodes.specs.Plain.{SoundNodes}
+use Rattle.tree.specs.Plain.{FloorTree, BoxesHold}
 use Rattle.border.specs.Plain.{SoundBorders}
 use Rattle.floor.specs.declared.Floor.{Floor}
 use Rattle.floor.specs.Reader.{readerVerdict, answerOf, readerAnswer}

@@ -7,9 +7,10 @@ use Prim.Native.Nat.{ℕ, zero, suc, _+_, _<_}
 use lib.ListN.{getD}
 use Rattle.tables.specs.Parts.{Parts, tableOf, wordOf, edgeOf, loopEnd}
 use Rattle.mesh.specs.Mesh.{IsFinite, Finite, Cornered, Painted, Meshed}
-use Rattle.tree.specs.Nodes.{nodesOf}
+use Rattle.nodes.specs.Nodes.{nodesOf}
+use Rattle.nodes.specs.Plain.{Leaf, Inner, SoundNodes}
 use Rattle.tree.specs.Boxes.{boxOf}
-use Rattle.tree.specs.Plain.{Leaf, Inner, SoundNodes, FloorTree, BoxesHold}
+use Rattle.tree.specs.Plain.{FloorTree, BoxesHold}
 use Rattle.border.specs.Halves.{from, to}
 use Rattle.border.specs.Loops.{loopStart}
 use Rattle.border.specs.Plain.{Opposite, Alone, Apart, Paired, Border, OneEntry, Bordered, Linked, ClosedChain, Looped, SoundBorders}

@@ -15,11 +15,11 @@ use Rattle.tables.proofs.Right.{header-met, header-sound, sound-header}
 use Rattle.tables.proofs.Reading.{sized-of}
 use Rattle.mesh.specs.Mesh.{rules7to10, Meshed}
 use Rattle.mesh.proofs.Plain.{mesh-met, met-mesh}
-use Rattle.tree.specs.Nodes.{rules11to12, nodesOf, faceOf}
+use Rattle.nodes.specs.Nodes.{rules11to12, nodesOf, faceOf}
+use Rattle.nodes.specs.Plain.{SoundNodes, Closed}
+use Rattle.nodes.proofs.Rule12.{nodes-met, met-nodes, kinds-closed}
 use Rattle.tree.specs.Tree.{oneTree, rule13}
 use Rattle.tree.specs.Boxes.{rule14, rules13to14}
-use Rattle.tree.specs.Plain.{SoundNodes, Closed}
-use Rattle.tree.proofs.Rule12.{nodes-met, met-nodes, kinds-closed}
 use Rattle.tree.proofs.Theorem.{rule13-met, met-rule13}
 use Rattle.tree.proofs.Held.{boxes-met, met-boxes}
 use Rattle.border.specs.Halves.{rules15to16}

@@ -11,7 +11,7 @@ use Rattle.verdict.proofs.Verdict.{then-next, then-stop, then-assoc, then-last,
 use Rattle.tables.specs.Header.{headerVerdict, rules2to6}
 use Rattle.tables.specs.Parts.{Parts, partsOf}
 use Rattle.mesh.specs.Mesh.{rules7to10}
-use Rattle.tree.specs.Nodes.{rules11to12}
+use Rattle.nodes.specs.Nodes.{rules11to12}
 use Rattle.tree.specs.Boxes.{rules13to14}
 use Rattle.border.specs.Halves.{rules15to16}
 use Rattle.border.specs.Loops.{wrongLoop, loopStart, rule19, rules17to19}

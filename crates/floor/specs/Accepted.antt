@@ -8,9 +8,10 @@ use Rattle.tables.specs.Header.{RightHeader}
 use Rattle.tables.specs.Parts.{partsOf}
 use Rattle.tables.specs.Fixed.{Sized}
 use Rattle.mesh.specs.Mesh.{Meshed}
-use Rattle.tree.specs.Nodes.{nodesOf, faceOf}
+use Rattle.nodes.specs.Nodes.{nodesOf, faceOf}
+use Rattle.nodes.specs.Plain.{SoundNodes, Closed}
 use Rattle.tree.specs.Tree.{oneTree}
-use Rattle.tree.specs.Plain.{SoundNodes, Closed, FloorTree, BoxesHold}
+use Rattle.tree.specs.Plain.{FloorTree, BoxesHold}
 use Rattle.border.specs.Plain.{SoundBorders}
 
 pub record Accepted (b : List ℕ) : Type 0 where

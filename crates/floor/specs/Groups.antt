@@ -7,7 +7,7 @@ use Rattle.verdict.specs.declared.Answer.{Answer}
 use Rattle.tables.specs.Header.{headerVerdict}
 use Rattle.tables.specs.Parts.{Parts, partsOf, wordPlace}
 use Rattle.mesh.specs.Mesh.{rules7to10}
-use Rattle.tree.specs.Nodes.{rules11to12}
+use Rattle.nodes.specs.Nodes.{rules11to12}
 use Rattle.tree.specs.Boxes.{rules13to14}
 use Rattle.border.specs.Halves.{rules15to16}
 use Rattle.border.specs.Loops.{rules17to19}

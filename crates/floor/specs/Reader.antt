@@ -14,7 +14,7 @@ use Rattle.tables.specs.Header.{floorTables, rule1, rule2, rule3, rule4}
 use Rattle.tables.specs.Parts.{Parts, partsOf, wordPlace, material}
 use Rattle.mesh.specs.Floats.{rule7}
 use Rattle.mesh.specs.Faces.{rule8, rule9, rule10, walkable}
-use Rattle.tree.specs.Nodes.{rule11, rule12}
+use Rattle.nodes.specs.Nodes.{rule11, rule12}
 use Rattle.tree.specs.Tree.{rule13}
 use Rattle.tree.specs.Boxes.{rule14}
 use Rattle.border.specs.Halves.{rule15, rule16}

@@ -5,7 +5,8 @@ use mathlib.Core.List.{List}
 use Rattle.tables.specs.Plain.{SoundHeader}
 use Rattle.tables.specs.Parts.{partsOf}
 use Rattle.mesh.specs.Mesh.{Meshed}
-use Rattle.tree.specs.Plain.{SoundNodes, FloorTree, BoxesHold}
+use Rattle.nodes.specs.Plain.{SoundNodes}
+use Rattle.tree.specs.Plain.{FloorTree, BoxesHold}
 use Rattle.border.specs.Plain.{SoundBorders}
 
 pub record Sound (b : List ℕ) : Type 0 where

@@ -9,7 +9,7 @@ ghost use Rattle.tables.specs.Header.{RightHeader};
 ghost use Rattle.tables.specs.Parts.{partsOf, wordPlace};
 ghost use Rattle.verdict.specs.Verdict.{accepted};
 ghost use Rattle.mesh.specs.Mesh.{Finite, Cornered};
-ghost use Rattle.tree.specs.Plain.{Closed};
+ghost use Rattle.nodes.specs.Plain.{Closed};
 ghost use Rattle.floor.specs.Reader.{readerVerdict, walkableFaces, answerOf, readerAnswer, readerMemory};
 ghost use Rattle.floor.specs.Rewrite.{rewriteVerdict, rewriteAnswer, rewriteMemory};
 ghost use Rattle.floor.specs.Groups.{rules7to12, rules15to19, rules13to19, rules1to19};
@@ -31,7 +31,7 @@ fn shape_verdict(bytes: &[u8]) -> Answer
     ensures { λ r. ⌜ r ≡ rules7to12 (wordPlace (now (bytes .entry))) (partsOf (now (bytes .entry))) ⌝ }
 {
     let so = mesh::mesh_verdict(bytes);
-    tree::then_nodes(so, bytes)
+    nodes::then_nodes(so, bytes)
 }
 
 // Rules 15 to 19.

@@ -23,7 +23,7 @@ use Rattle.grid.specs.Plain.{OnGrid}
 use Rattle.grid.proofs.Grid.{grid-on}
 use Rattle.grid.proofs.Weights.{held}
 use Rattle.tables.specs.Parts.{Parts, partsOf}
-use Rattle.tree.specs.Nodes.{Nodes, nodesOf, faceOf}
+use Rattle.nodes.specs.Nodes.{Nodes, nodesOf, faceOf}
 use Rattle.tree.specs.Plain.{follow, OneTree}
 use Rattle.tree.specs.Boxes.{vertexFloat}
 use Rattle.tree.specs.Visits.{shown, visitedCount, Shown}

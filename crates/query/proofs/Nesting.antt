@@ -21,11 +21,11 @@ use Rattle.grid.proofs.Boxes.{inner-back, holds-inner}
 use Rattle.grid.proofs.Corners.{x-mean, y-mean}
 use Rattle.tables.specs.Parts.{Parts, partsOf, corner, nodeWord}
 use Rattle.mesh.proofs.Plain.{finite-test}
-use Rattle.tree.specs.Nodes.{nodesOf, faceOf}
+use Rattle.nodes.specs.Nodes.{nodesOf, faceOf}
+use Rattle.nodes.specs.Plain.{Leaf, Inner}
+use Rattle.nodes.proofs.Rule12.{leaf-is, inner-is}
 use Rattle.tree.specs.Boxes.{boxOf, vertexFloat}
-use Rattle.tree.specs.Plain.{Leaf, Inner}
 use Rattle.tree.specs.Visits.{Nested}
-use Rattle.tree.proofs.Rule12.{leaf-is, inner-is}
 use Rattle.query.specs.Rules.{offGrid}
 use Rattle.query.specs.Points.{cornerAt, faceHolds, boxHolds, Ready}
 

@@ -10,7 +10,7 @@ use Rattle.verdict.proofs.Bools.{and-true}
 use Rattle.grid.specs.Box.{holdsXY}
 use Rattle.grid.specs.declared.Box.{Box}
 use Rattle.tables.specs.Parts.{Parts, partsOf}
-use Rattle.tree.specs.Nodes.{Nodes, nodesOf, faceOf, leftOf, rightOf}
+use Rattle.nodes.specs.Nodes.{Nodes, nodesOf, faceOf, leftOf, rightOf}
 use Rattle.tree.specs.Tree.{ends}
 use Rattle.tree.specs.Boxes.{boxOf}
 use Rattle.tree.specs.Visits.{cut, score, least}

@@ -9,7 +9,7 @@ use lib.ListN.{length}
 use Rattle.verdict.specs.Lists.{tally}
 use Rattle.verdict.specs.Lowest.{lowest}
 use Rattle.tables.specs.Parts.{partsOf}
-use Rattle.tree.specs.Nodes.{nodesOf, faceOf}
+use Rattle.nodes.specs.Nodes.{nodesOf, faceOf}
 use Rattle.tree.specs.Tree.{ends}
 use Rattle.tree.specs.Visits.{visitedCount, least}
 use Rattle.tree.proofs.Deep.{Kids}

@@ -15,7 +15,7 @@ use Rattle.grid.specs.Plain.{OnGrid}
 use Rattle.grid.specs.Triangle.{cross}
 use Rattle.grid.specs.Weighted.{Weighted}
 use Rattle.tables.specs.Parts.{Parts, partsOf}
-use Rattle.tree.specs.Nodes.{Nodes, nodesOf}
+use Rattle.nodes.specs.Nodes.{Nodes, nodesOf}
 use Rattle.tree.specs.Boxes.{boxOf, vertexFloat}
 use Rattle.tree.specs.Plain.{follow}
 use Rattle.floor.specs.Sound.{Sound}

@@ -14,7 +14,7 @@ use Rattle.grid.specs.Grid.{scaled, gridFloat}
 use Rattle.grid.specs.Box.{holdsXY}
 use Rattle.grid.specs.Triangle.{inTriangle}
 use Rattle.tables.specs.Parts.{Parts, partsOf, corner}
-use Rattle.tree.specs.Nodes.{nodesOf}
+use Rattle.nodes.specs.Nodes.{nodesOf}
 use Rattle.tree.specs.Boxes.{boxOf, vertexFloat}
 use Rattle.tree.specs.Visits.{visitedCount}
 use Rattle.floor.specs.Accepted.{Accepted}

@@ -10,7 +10,7 @@ ghost use Rattle.wire.specs.Signed.{Within};
 ghost use Rattle.grid.specs.Grid.{onGrid, within};
 ghost use Rattle.tables.specs.Header.{RightHeader};
 ghost use Rattle.tables.specs.Parts.{partsOf};
-ghost use Rattle.tree.specs.Nodes.{nodesOf, faceOf};
+ghost use Rattle.nodes.specs.Nodes.{nodesOf, faceOf};
 ghost use Rattle.tree.specs.Tree.{ends};
 ghost use Rattle.tree.specs.Boxes.{vertexFloat};
 ghost use Rattle.tree.specs.Visits.{cut, score, least};
@@ -151,7 +151,7 @@ fn goes_on(bytes: &[u8], at: Spot, n: usize) -> bool
     requires { ⌜ Ready (now bytes) × Placed at × (n < (partsOf (now bytes) .nodes)) ⌝ }
     ensures { λ r. ⌜ r ≡ (cut (nodesOf (partsOf (now (bytes .entry)))) (boxHolds (partsOf (now (bytes .entry))) (at .x) (at .y)) .inner) n ⌝ }
 {
-    if !tree::is_inner_node(bytes, n) {
+    if !nodes::is_inner_node(bytes, n) {
         return false;
     }
     grid::holds_xy(tree::box_of(bytes, n), at.fx, at.fy)
@@ -162,14 +162,14 @@ fn own(bytes: &[u8], at: Spot, n: usize) -> Seen
     requires { ⌜ Ready (now bytes) × Placed at × (n < (partsOf (now bytes) .nodes)) ⌝ }
     ensures { λ r. ⌜ (r .count ≡ 1) × (r .face ≡ score (partsOf (now (bytes .entry)) .faces) (nodesOf (partsOf (now (bytes .entry)))) (faceOf (partsOf (now (bytes .entry)))) (faceHolds (partsOf (now (bytes .entry))) (at .x) (at .y)) n) ⌝ }
 {
-    let none = tree::face_count(bytes);
-    if tree::is_inner_node(bytes, n) {
+    let none = nodes::face_count(bytes);
+    if nodes::is_inner_node(bytes, n) {
         return Seen {
             count: 1,
             face: none,
         };
     }
-    let f = tree::face_of(bytes, n);
+    let f = nodes::face_of(bytes, n);
     if face_holds(bytes, at, f) {
         return Seen { count: 1, face: f };
     }
@@ -210,9 +210,9 @@ fn look(bytes: &[u8], at: Spot, n: usize, depth: usize) -> Seen
     if !goes_on(bytes, at, n) {
         return own(bytes, at, n);
     }
-    let l = tree::left_of(bytes, n);
+    let l = nodes::left_of(bytes, n);
     let a = look(bytes, at, l, depth - 1);
-    let r = tree::right_of(bytes, n);
+    let r = nodes::right_of(bytes, n);
     let b = look(bytes, at, r, depth - 1);
     joined(a, b)
 }
@@ -256,7 +256,7 @@ fn walked(bytes: &[u8], x: i64, y: i64) -> Point
     requires { ⌜ Ready (now bytes) × Within 65536 x × Within 65536 y ⌝ }
     ensures { λ r. ⌜ r ≡ pointOf accepted (partsOf (now (bytes .entry))) x y ⌝ }
 {
-    let faces = tree::face_count(bytes);
+    let faces = nodes::face_count(bytes);
     if faces == 0 {
         return told(Seen { count: 0, face: 0 }, 0);
     }

@@ -16,7 +16,7 @@ use Rattle.verdict.specs.Lists.{bit, times, tally}
 use Rattle.verdict.proofs.Bools.{clash, test, decided, and-true, true-and, not-of-true, not-of-false}
 use Rattle.verdict.proofs.Lowest.{all-true, true-all}
 use Rattle.verdict.proofs.Lists.{NoneFrom, none-head, none-tail}
-use Rattle.tree.specs.Nodes.{Nodes}
+use Rattle.nodes.specs.Nodes.{Nodes}
 use Rattle.tree.specs.Tree.{ends}
 use Rattle.tree.specs.Plain.{follow, OnePath, OneTree}
 use Rattle.tree.specs.Visits.{above, shown, visitedCount, cut, Shown}

@@ -12,7 +12,7 @@ use Rattle.verdict.specs.Memory.{isMarked, fresh, marked}
 use Rattle.verdict.proofs.Bools.{clash, test, same-test, and-true, or-false}
 use Rattle.verdict.proofs.Lists.{bit-same, bit-le, times-append, NoneFrom, none-nil, none-cons, none-append, none-more}
 use Rattle.verdict.proofs.Once.{room, rooms, once-law}
-use Rattle.tree.specs.Nodes.{Nodes}
+use Rattle.nodes.specs.Nodes.{Nodes}
 use Rattle.tree.specs.Tree.{ends, deep}
 use Rattle.tree.specs.Trail.{trail}
 use Rattle.tree.proofs.Shape.{trail-leaf, trail-end, trail-more}

@@ -8,7 +8,7 @@ use lib.ListN.{getD}
 use lib.Dec.{eqb, ltb}
 use Rattle.verdict.specs.Lowest.{lowest, anyUnder, allUnder}
 use Rattle.verdict.specs.Lists.{times, once}
-use Rattle.tree.specs.Nodes.{Nodes, none32}
+use Rattle.nodes.specs.Nodes.{Nodes, none32}
 use Rattle.tree.specs.Tree.{ends, deep, leafFaces, oneTree}
 
 -- nodes by lists of faces and of children

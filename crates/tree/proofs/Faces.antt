@@ -12,7 +12,7 @@ use Rattle.verdict.specs.Memory.{fresh, marked}
 use Rattle.verdict.proofs.Bools.{test}
 use Rattle.verdict.proofs.Lists.{NoneFrom, none-nil, none-cons, none-append}
 use Rattle.verdict.proofs.Marks.{is-marked, not-marked, fresh-hit, fresh-new, marked-hit, marked-new, fresh-append, marked-append, fresh-append-stop, marked-append-stop}
-use Rattle.tree.specs.Nodes.{Nodes}
+use Rattle.nodes.specs.Nodes.{Nodes}
 use Rattle.tree.specs.Tree.{leafFaces}
 
 module _ (t : Nodes) (f : ℕ → ℕ) where

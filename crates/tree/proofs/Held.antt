@@ -18,10 +18,11 @@ use Rattle.grid.proofs.Boxes.{point-held, held-point, inner, inner-back}
 use Rattle.tables.specs.Parts.{Parts, vertexWord, corner, nodeWord}
 use Rattle.mesh.specs.Mesh.{Finite}
 use Rattle.mesh.proofs.Plain.{finite-test}
-use Rattle.tree.specs.Nodes.{nodesOf, faceOf, leftOf, rightOf}
+use Rattle.nodes.specs.Nodes.{nodesOf, faceOf, leftOf, rightOf}
+use Rattle.nodes.specs.Plain.{Leaf, Inner}
+use Rattle.nodes.proofs.Rule12.{leaf-is, inner-is}
 use Rattle.tree.specs.Boxes.{boxOf, vertexFloat, holdsCorner, holdsFace, holdsChildren, tooSmall, rule14}
-use Rattle.tree.specs.Plain.{Leaf, Inner, BoxesHold}
-use Rattle.tree.proofs.Rule12.{leaf-is, inner-is}
+use Rattle.tree.specs.Plain.{BoxesHold}
 
 -- ---- what rule 7 gives
 

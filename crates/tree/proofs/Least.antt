@@ -13,7 +13,7 @@ use Rattle.verdict.specs.Lists.{bit, times}
 use Rattle.verdict.proofs.Bools.{clash, test, decided}
 use Rattle.verdict.proofs.Lowest.{lowest-is}
 use Rattle.verdict.proofs.Lists.{bit-same, NoneFrom}
-use Rattle.tree.specs.Nodes.{Nodes}
+use Rattle.nodes.specs.Nodes.{Nodes}
 use Rattle.tree.specs.Tree.{ends}
 use Rattle.tree.specs.Plain.{follow, OneTree}
 use Rattle.tree.specs.Visits.{cut, score, least, Shown, Nested}

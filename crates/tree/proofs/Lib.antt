@@ -1,4 +1,3 @@
-pub mod Rule12
 pub mod Shape
 pub mod Deep
 pub mod Faces

@@ -12,7 +12,7 @@ use borrow.Author.Tests.{eq-eqb, eqb-true}
 use Rattle.verdict.specs.Lists.{bit, times}
 use Rattle.verdict.proofs.Bools.{clash, test, decided}
 use Rattle.verdict.proofs.Lists.{bit-same, bit-le, times-append}
-use Rattle.tree.specs.Nodes.{Nodes}
+use Rattle.nodes.specs.Nodes.{Nodes}
 use Rattle.tree.specs.Tree.{ends, deep}
 use Rattle.tree.specs.Plain.{follow}
 use Rattle.tree.proofs.Deep.{Kids, ends-leaf, ends-inner, deep-leaf, deep-inner, shallow-kids}

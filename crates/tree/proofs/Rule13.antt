@@ -13,10 +13,10 @@ use Rattle.verdict.proofs.Lists.{NoneFrom, none-more}
 use Rattle.verdict.proofs.Once.{once-law}
 use Rattle.verdict.proofs.Memory.{cleared-again, cleared-twice, length-cleared, getD-cleared}
 use Rattle.tables.specs.Parts.{Parts}
-use Rattle.tree.specs.Nodes.{Nodes, nodesOf, faceOf}
+use Rattle.nodes.specs.Nodes.{Nodes, nodesOf, faceOf}
+use Rattle.nodes.specs.Plain.{Closed}
 use Rattle.tree.specs.Tree.{ends, deep, leafFaces, oneTree}
 use Rattle.tree.specs.Trail.{trail}
-use Rattle.tree.specs.Plain.{Closed}
 use Rattle.tree.proofs.Deep.{Kids, spans-law, trail-within}
 use Rattle.tree.proofs.Faces.{faces-within}
 

@@ -9,7 +9,7 @@ use lib.ListN.{length, getD, set}
 use lib.Seq.{getD-set-same}
 use Rattle.verdict.specs.Memory.{isMarked, fresh, marked}
 use Rattle.verdict.proofs.Marks.{is-marked, not-marked, fresh-hit, fresh-new, marked-hit, marked-new, fresh-append, marked-append, fresh-append-stop, marked-append-stop}
-use Rattle.tree.specs.Nodes.{Nodes}
+use Rattle.nodes.specs.Nodes.{Nodes}
 use Rattle.tree.specs.Trail.{trail}
 
 module _ (t : Nodes) where

@@ -7,7 +7,7 @@ use mathlib.Core.Bool.{Bool, true, false}
 use mathlib.Core.List.{List, [], _∷_, _++_}
 use lib.ListN.{length, length-append}
 use Rattle.verdict.proofs.Bools.{test}
-use Rattle.tree.specs.Nodes.{Nodes}
+use Rattle.nodes.specs.Nodes.{Nodes}
 use Rattle.tree.specs.Tree.{ends}
 use Rattle.tree.specs.Visits.{cut, score, least}
 use Rattle.tree.proofs.Deep.{ends-leaf, ends-inner}

@@ -16,9 +16,10 @@ use Rattle.verdict.proofs.Lowest.{all-true, true-all}
 use Rattle.verdict.proofs.Lists.{times-append, tally-one, one-tally}
 use Rattle.verdict.proofs.Verdict.{unbroken, met}
 use Rattle.tables.specs.Parts.{Parts}
-use Rattle.tree.specs.Nodes.{Nodes, nodesOf, faceOf}
+use Rattle.nodes.specs.Nodes.{Nodes, nodesOf, faceOf}
+use Rattle.nodes.specs.Plain.{Closed}
 use Rattle.tree.specs.Tree.{ends, deep, leafFaces, oneTree, rule13}
-use Rattle.tree.specs.Plain.{Closed, OnePath, OneLeaf, OneTree, FloorTree}
+use Rattle.tree.specs.Plain.{OnePath, OneLeaf, OneTree, FloorTree}
 use Rattle.tree.proofs.Deep.{Kids}
 use Rattle.tree.proofs.Paths.{reach, found, unique, few, short, shallow, follow-below}
 use Rattle.tree.proofs.Rule13.{kids, one-none, one-some}

@@ -10,7 +10,7 @@ use Rattle.verdict.specs.declared.Answer.{Answer}
 use Rattle.grid.specs.Box.{boxOfBits, holdsPoint, holdsBox}
 use Rattle.grid.specs.declared.Box.{Box}
 use Rattle.tables.specs.Parts.{Parts, vertexWord, corner, nodeWord}
-use Rattle.tree.specs.Nodes.{nodesOf, faceOf, leftOf, rightOf}
+use Rattle.nodes.specs.Nodes.{nodesOf, faceOf, leftOf, rightOf}
 use Rattle.tree.specs.Tree.{rule13}
 
 -- node n's box: least x, y, z, greatest x, y, z

@@ -1,4 +1,3 @@
-pub mod Nodes
 pub mod Tree
 pub mod Trail
 pub mod Boxes

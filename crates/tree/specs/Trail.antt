@@ -2,7 +2,7 @@
 use Prim.Native.Nat.{ℕ, zero, suc}
 use mathlib.Core.Bool.{cond}
 use mathlib.Core.List.{List, [], _∷_, _++_}
-use Rattle.tree.specs.Nodes.{Nodes}
+use Rattle.nodes.specs.Nodes.{Nodes}
 
 -- the nodes from n on in the order of the walk; an inner node at which the depth d is used up stands twice, so that it is refused
 unfoldable pub trail : Nodes → ℕ → ℕ → List ℕ

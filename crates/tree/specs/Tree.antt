@@ -7,7 +7,7 @@ use Rattle.verdict.specs.Lists.{once}
 use Rattle.verdict.specs.Verdict.{rule}
 use Rattle.verdict.specs.declared.Answer.{Answer}
 use Rattle.tables.specs.Parts.{Parts}
-use Rattle.tree.specs.Nodes.{Nodes, nodesOf, faceOf}
+use Rattle.nodes.specs.Nodes.{Nodes, nodesOf, faceOf}
 
 -- the ends of all downward paths of at most d steps from n, one for each path
 unfoldable pub ends : Nodes → ℕ → ℕ → List ℕ

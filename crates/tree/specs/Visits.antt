@@ -8,7 +8,7 @@ use mathlib.Core.Option.{some}
 use lib.Dec.{eqb, leb}
 use Rattle.verdict.specs.Lowest.{allUnder}
 use Rattle.verdict.specs.Lists.{times, tally}
-use Rattle.tree.specs.Nodes.{Nodes}
+use Rattle.nodes.specs.Nodes.{Nodes}
 use Rattle.tree.specs.Tree.{ends}
 use Rattle.tree.specs.Plain.{follow}
 

@@ -26,7 +26,7 @@ use Rattle.tables.specs.Parts.{partsOf, tableWords, wordOf, wordPlace}
 use Rattle.tables.proofs.Right.{wrong-long}
 use Rattle.mesh.specs.Floats.{wild, wildHead, wildIn, rule7In, rule7}
 use Rattle.mesh.specs.Faces.{wrongCorner, wrongCorners, walkable, strange, misplaced, rule8, rule9, rule10}
-use Rattle.tree.specs.Nodes.{nodesOf, isPlane, isLeaf, isInner, neither, rule11, rule12}
+use Rattle.nodes.specs.Nodes.{nodesOf, isPlane, isLeaf, isInner, neither, rule11, rule12}
 use Rattle.tree.specs.Tree.{ends, deep, leafFaces, oneTree, rule13}
 use Rattle.tree.specs.Visits.{visitedCount, shown, above}
 use Rattle.tree.specs.Boxes.{boxOf, holdsCorner, holdsFace, holdsChildren, tooSmall, rule14}

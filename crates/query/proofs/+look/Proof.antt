@@ -16,8 +16,8 @@ use Rattle.query.proofs.+look.Lts-look as look-lts
 use Rattle.query.proofs.goes_on.Reads as goes-on-reads
 use Rattle.query.proofs.joined.Reads as joined-reads
 use Rattle.query.proofs.own.Reads as own-reads
-use Rattle.tree.proofs.left_of.Reads as left-of-reads
-use Rattle.tree.proofs.right_of.Reads as right-of-reads
+use Rattle.nodes.proofs.left_of.Reads as left-of-reads
+use Rattle.nodes.proofs.right_of.Reads as right-of-reads
 use Rattle.query.proofs.+look.{statement}
 use Rattle.query.proofs.+look.Tie.{close}
 

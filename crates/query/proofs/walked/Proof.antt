@@ -7,7 +7,7 @@ use denote.Ref.{now}
 use mir.Syntax.{w64}
 use mir.ValLaws.{toZ-ofZ}
 use Rattle.tables.specs.Parts.{partsOf}
-use Rattle.tree.specs.Nodes.{nodesOf}
+use Rattle.nodes.specs.Nodes.{nodesOf}
 use Rattle.tree.proofs.Sight.{length-cut}
 use Rattle.query.specs.Points.{boxHolds}
 use Rattle.query.proofs.Walks.{no-faces, root-under, all-few, walk-answer}

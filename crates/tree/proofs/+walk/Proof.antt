@@ -9,14 +9,14 @@ use borrow.Author.Tests.{not-true, not-false}
 use borrow.Fn.Kinds.{In}
 use borrow.Fn.PlainCycle.{Measures, is, falls, and}
 use Rattle.tables.specs.Parts.{partsOf}
-use Rattle.tree.specs.Nodes.{Nodes, nodesOf}
+use Rattle.nodes.specs.Nodes.{Nodes, nodesOf}
+use Rattle.nodes.proofs.is_inner_node.Reads as is-inner-node-reads
+use Rattle.nodes.proofs.left_of.Reads as left-of-reads
+use Rattle.nodes.proofs.right_of.Reads as right-of-reads
 use Rattle.tree.proofs.Shape.{hit, leaf, last, stop, go}
 use Rattle.tree.proofs.walk.Reads as walk
 use Rattle.tree.proofs.walk.Kinds as walk-kinds
 use Rattle.tree.proofs.+walk.Lts-walk as walk-lts
-use Rattle.tree.proofs.is_inner_node.Reads as is-inner-node-reads
-use Rattle.tree.proofs.left_of.Reads as left-of-reads
-use Rattle.tree.proofs.right_of.Reads as right-of-reads
 use Rattle.tree.proofs.+walk.{statement}
 use Rattle.tree.proofs.+walk.Tie.{close}
 

@@ -9,7 +9,7 @@ use Rattle.verdict.specs.Lowest.{allUnder}
 use Rattle.verdict.specs.Memory.{isMarked}
 use Rattle.verdict.proofs.Lists.{NoneFrom}
 use Rattle.tables.specs.Parts.{Parts, partsOf}
-use Rattle.tree.specs.Nodes.{nodesOf, faceOf}
+use Rattle.nodes.specs.Nodes.{nodesOf, faceOf}
 use Rattle.tree.specs.Tree.{leafFaces}
 use Rattle.tree.proofs.Rule13.{Half, leaves-within, both-first, both-none, half-memory, half-once}
 use Rattle.tree.proofs.covers.Statement.{statement}

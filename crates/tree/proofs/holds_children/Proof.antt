@@ -5,7 +5,7 @@ use borrow.Author.Tests.{not-true, not-false}
 use denote.Ref.{now}
 use Rattle.grid.specs.Box.{holdsBox}
 use Rattle.tables.specs.Parts.{partsOf}
-use Rattle.tree.specs.Nodes.{leftOf, rightOf}
+use Rattle.nodes.specs.Nodes.{leftOf, rightOf}
 use Rattle.tree.specs.Boxes.{boxOf}
 use Rattle.tree.proofs.Held.{no-left, by-right}
 use Rattle.tree.proofs.holds_children.Statement.{statement}

@@ -10,7 +10,7 @@ use denote.Ref.{now}
 use borrow.Author.Tests.{not-true, not-false}
 use Rattle.verdict.specs.Memory.{fresh, marked}
 use Rattle.tables.specs.Parts.{Parts, partsOf}
-use Rattle.tree.specs.Nodes.{nodesOf, faceOf}
+use Rattle.nodes.specs.Nodes.{nodesOf, faceOf}
 use Rattle.tree.specs.Tree.{leafFaces}
 use Rattle.tree.proofs.Faces.{faces-inner, face-new, face-hit}
 use Rattle.tree.proofs.mark_faces.Statement.{statement}

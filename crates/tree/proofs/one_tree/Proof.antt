@@ -6,7 +6,7 @@ use mathlib.Core.Bool.{Bool, _&&_}
 use denote.Ref.{now}
 use Rattle.verdict.specs.Memory.{workSize, clearedTo}
 use Rattle.tables.specs.Parts.{Parts, partsOf}
-use Rattle.tree.specs.Nodes.{nodesOf, faceOf}
+use Rattle.nodes.specs.Nodes.{nodesOf, faceOf}
 use Rattle.tree.specs.Tree.{oneTree}
 use Rattle.tree.proofs.Rule13.{one-none, one-some, twice, both-first, both-none}
 use Rattle.tree.proofs.one_tree.Statement.{statement}

@@ -9,7 +9,7 @@ use Rattle.verdict.specs.Lowest.{allUnder}
 use Rattle.verdict.specs.Memory.{isMarked}
 use Rattle.verdict.proofs.Lists.{NoneFrom}
 use Rattle.tables.specs.Parts.{Parts, partsOf}
-use Rattle.tree.specs.Nodes.{nodesOf}
+use Rattle.nodes.specs.Nodes.{nodesOf}
 use Rattle.tree.specs.Trail.{trail}
 use Rattle.tree.proofs.Rule13.{Half, kids, nodes-within, both-first, both-none, half-memory, half-spans}
 use Rattle.tree.proofs.spans.Statement.{statement}

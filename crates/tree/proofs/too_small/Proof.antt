@@ -4,7 +4,7 @@ use mathlib.Core.Path.{_≡_, sym, _∙_}
 use mathlib.Core.Bool.{true, false}
 use denote.Ref.{now}
 use Rattle.tables.specs.Parts.{partsOf}
-use Rattle.tree.specs.Nodes.{nodesOf}
+use Rattle.nodes.specs.Nodes.{nodesOf}
 use Rattle.tree.proofs.Held.{small-inner, small-leaf}
 use Rattle.tree.proofs.too_small.Statement.{statement}
 use Rattle.tree.proofs.too_small.Tie as tie

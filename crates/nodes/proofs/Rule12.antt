@@ -11,8 +11,8 @@ use Rattle.verdict.specs.Verdict.{accepted}
 use Rattle.verdict.proofs.Bools.{clash, test, decided, and-true}
 use Rattle.verdict.proofs.Verdict.{passed, unbroken, met, then-both, each-met, each-passes}
 use Rattle.tables.specs.Parts.{Parts}
-use Rattle.tree.specs.Nodes.{none32, faceOf, planeOf, leftOf, rightOf, nodesOf, isPlane, isLeaf, isInner, neither, rule11, rule12, rules11to12}
-use Rattle.tree.specs.Plain.{Plane, Leaf, Inner, Closed, SoundNodes}
+use Rattle.nodes.specs.Nodes.{none32, faceOf, planeOf, leftOf, rightOf, nodesOf, isPlane, isLeaf, isInner, neither, rule11, rule12, rules11to12}
+use Rattle.nodes.specs.Plain.{Plane, Leaf, Inner, Closed, SoundNodes}
 
 -- ---- the plane
 

@@ -6,9 +6,9 @@ use denote.Ref.{now}
 use borrow.Author.Tests.{lt-ltb, le-ltb, eq-eqb, ne-eqb, not-true, not-false}
 use Rattle.verdict.proofs.Bools.{and-no}
 use Rattle.tables.specs.Parts.{partsOf}
-use Rattle.tree.specs.Nodes.{none32, faceOf, leftOf, isPlane, isInner}
-use Rattle.tree.proofs.is_inner.Statement.{statement}
-use Rattle.tree.proofs.is_inner.Tie as tie
+use Rattle.nodes.specs.Nodes.{none32, faceOf, leftOf, isPlane, isInner}
+use Rattle.nodes.proofs.is_inner.Statement.{statement}
+use Rattle.nodes.proofs.is_inner.Tie as tie
 
 returns : tie.Need-returns
 unfolding isInner

@@ -1,8 +1,8 @@
 -- The node's left child is the word as it stands: children count from 0. Assumes nothing.
 use borrow.Author.Needs.{needs}
 use native.Mathlib.Omega.{arith}
-use Rattle.tree.proofs.left_of.Statement.{statement}
-use Rattle.tree.proofs.left_of.Tie as tie
+use Rattle.nodes.proofs.left_of.Statement.{statement}
+use Rattle.nodes.proofs.left_of.Tie as tie
 
 returns : tie.Need-returns
 returns c = omega arith

@@ -3,9 +3,9 @@ use borrow.Author.Needs.{needs}
 use Prim.Native.Nat.{ℕ}
 use mathlib.Core.Path.{ap}
 use lib.Dec.{eqb}
-use Rattle.tree.specs.Nodes.{none32, nodesOf}
-use Rattle.tree.proofs.is_inner_node.Statement.{statement}
-use Rattle.tree.proofs.is_inner_node.Tie as tie
+use Rattle.nodes.specs.Nodes.{none32, nodesOf}
+use Rattle.nodes.proofs.is_inner_node.Statement.{statement}
+use Rattle.nodes.proofs.is_inner_node.Tie as tie
 
 returns : tie.Need-returns
 unfolding nodesOf

@@ -6,9 +6,9 @@ use denote.Ref.{now}
 use borrow.Author.Tests.{lt-ltb, le-ltb, eq-eqb, ne-eqb}
 use Rattle.verdict.proofs.Bools.{and-no}
 use Rattle.tables.specs.Parts.{partsOf}
-use Rattle.tree.specs.Nodes.{none32, faceOf, planeOf, leftOf, isLeaf}
-use Rattle.tree.proofs.is_leaf.Statement.{statement}
-use Rattle.tree.proofs.is_leaf.Tie as tie
+use Rattle.nodes.specs.Nodes.{none32, faceOf, planeOf, leftOf, isLeaf}
+use Rattle.nodes.proofs.is_leaf.Statement.{statement}
+use Rattle.nodes.proofs.is_leaf.Tie as tie
 
 returns : tie.Need-returns
 unfolding isLeaf

@@ -5,9 +5,9 @@ use mathlib.Core.Bool.{not}
 use lib.Dec.{eqb}
 use Rattle.verdict.specs.Verdict.{rule, ruleOfEach, _then_}
 use Rattle.verdict.proofs.Verdict.{then-assoc}
-use Rattle.tree.specs.Nodes.{rule11, rule12, rules11to12}
-use Rattle.tree.proofs.then_nodes.Statement.{statement}
-use Rattle.tree.proofs.then_nodes.Tie as tie
+use Rattle.nodes.specs.Nodes.{rule11, rule12, rules11to12}
+use Rattle.nodes.proofs.then_nodes.Statement.{statement}
+use Rattle.nodes.proofs.then_nodes.Tie as tie
 
 -- a wrong count of nodes is told at its own field
 counted : (c : tie.After-then-rule) → let so = c .before .before .before .before .before .args .so in

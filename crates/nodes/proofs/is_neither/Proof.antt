@@ -1,9 +1,9 @@
 -- Neither leaf nor inner. Assumes nothing.
 use borrow.Author.Needs.{needs}
 use mathlib.Core.Path.{sym, _∙_}
-use Rattle.tree.specs.Nodes.{neither}
-use Rattle.tree.proofs.is_neither.Statement.{statement}
-use Rattle.tree.proofs.is_neither.Tie as tie
+use Rattle.nodes.specs.Nodes.{neither}
+use Rattle.nodes.proofs.is_neither.Statement.{statement}
+use Rattle.nodes.proofs.is_neither.Tie as tie
 
 returns : tie.Need-returns
 unfolding neither

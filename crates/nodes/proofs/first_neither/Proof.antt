@@ -6,9 +6,9 @@ use mathlib.Core.Path.{_≡_, sym, _∙_}
 use Rattle.verdict.specs.Lowest.{lowest}
 use Rattle.verdict.proofs.Lowest.{lowest-none, lowest-more, lowest-hit, lowest-done}
 use Rattle.tables.specs.Parts.{partsOf}
-use Rattle.tree.specs.Nodes.{neither}
-use Rattle.tree.proofs.first_neither.Statement.{statement}
-use Rattle.tree.proofs.first_neither.Tie as tie
+use Rattle.nodes.specs.Nodes.{neither}
+use Rattle.nodes.proofs.first_neither.Statement.{statement}
+use Rattle.nodes.proofs.first_neither.Tie as tie
 
 abbrev Inv-loop : tie.InvT-loop
 Inv-loop bytes nodes n₀ n = lowest n (neither (partsOf bytes)) ≡ n

@@ -2,9 +2,9 @@
 use native.Mathlib.Omega.{arith}
 use borrow.Author.Tests.{le-leb, lt-leb}
 use Rattle.verdict.proofs.Bools.{and-yes}
-use Rattle.tree.specs.Nodes.{isPlane}
-use Rattle.tree.proofs.is_plane.Statement.{statement}
-use Rattle.tree.proofs.is_plane.Tie as tie
+use Rattle.nodes.specs.Nodes.{isPlane}
+use Rattle.nodes.proofs.is_plane.Statement.{statement}
+use Rattle.nodes.proofs.is_plane.Tie as tie
 
 returns : tie.Need-returns
 unfolding isPlane

@@ -2,8 +2,8 @@
 use native.Mathlib.Omega.{arith}
 use Rattle.tables.proofs.Right.{header-met}
 use Rattle.tables.proofs.Reading.{sized-of}
-use Rattle.tree.proofs.face_count.Statement.{statement}
-use Rattle.tree.proofs.face_count.Tie as tie
+use Rattle.nodes.proofs.face_count.Statement.{statement}
+use Rattle.nodes.proofs.face_count.Tie as tie
 
 count-of-requires : tie.Need-count-of-requires
 count-of-requires c κs = (header-met _ (c .before .pre) .long, omega arith)
