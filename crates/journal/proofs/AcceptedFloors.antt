@@ -25,16 +25,19 @@ use Rattle.floor.specs.Reader.{readerVerdict}
 use Rattle.floor.specs.Sound.{Sound}
 use Rattle.floor.proofs.Meaning.{accepted-sound, sound-accepted}
 use Rattle.floor.proofs.Edits.{paint-kept, link-kept, nudge-kept}
-use Rattle.journal.specs.declared.Rec.{Rec}
-use Rattle.journal.specs.Wish.{linkable}
-use Rattle.journal.specs.Kind.{lay, Fits, Lawful}
+use Rattle.record.specs.declared.Rec.{Rec}
+use Rattle.record.specs.Allowed.{linkable}
+use Rattle.record.specs.Kind.{lay}
+use Rattle.record.specs.Area.{areaFloor}
+use Rattle.record.proofs.Allowed.{permitted-small, permitted-same}
+use Rattle.record.proofs.Area.{lay-right}
+use Rattle.journal.specs.Lawful.{Fits, Lawful}
 use Rattle.journal.specs.Step.{lent}
-use Rattle.journal.specs.Calls.{Call, run, areaFloor}
+use Rattle.journal.specs.Calls.{Call, run}
 use Rattle.journal.specs.Plain.{plainRun, empty}
 use Rattle.journal.specs.Demand.{Demand3}
 use Rattle.journal.specs.SoundFloor.{SoundFloor, AcceptedFloor}
-use Rattle.journal.proofs.Wishes.{permitted-small, permitted-same}
-use Rattle.journal.proofs.Area.{fits-ways, lay-right, area-lawful}
+use Rattle.journal.proofs.Lawful.{fits-ways, area-lawful}
 use Rattle.journal.proofs.Demand.{demand3}
 
 -- ---- the tests of 23 and 24 as plain facts

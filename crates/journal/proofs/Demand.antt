@@ -4,7 +4,8 @@ use Prim.Native.Nat.{ℕ}
 use mathlib.Core.List.{List, []}
 use native.Mathlib.Omega.{arith}
 use lib.ListN.{length}
-use Rattle.journal.specs.Kind.{Kind, Lawful, lay, Fits}
+use Rattle.record.specs.Kind.{Kind, lay}
+use Rattle.journal.specs.Lawful.{Lawful, Fits}
 use Rattle.journal.specs.Step.{State, lent}
 use Rattle.journal.specs.Calls.{Call, putBack, step, run}
 use Rattle.journal.specs.Replay.{layAll}

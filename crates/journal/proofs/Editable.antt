@@ -13,15 +13,18 @@ use Rattle.tables.specs.Parts.{Parts, partsOf, wordIndex, wordOf, transition, w
 use Rattle.tables.specs.Fixed.{Sized}
 use Rattle.tables.proofs.Reading.{sized-of}
 use Rattle.tables.proofs.Writing.{set-here, set-elsewhere, set-other-table}
-use Rattle.journal.specs.declared.Rec.{Rec}
-use Rattle.journal.specs.Wish.{linkable}
-use Rattle.journal.specs.Kind.{lay, Fits, Lawful}
+use Rattle.record.specs.declared.Rec.{Rec}
+use Rattle.record.specs.Allowed.{linkable}
+use Rattle.record.specs.Kind.{lay}
+use Rattle.record.specs.Area.{areaFloor}
+use Rattle.record.proofs.Area.{lay-right}
+use Rattle.journal.specs.Lawful.{Fits, Lawful}
 use Rattle.journal.specs.Step.{lent}
-use Rattle.journal.specs.Calls.{Call, run, areaFloor}
+use Rattle.journal.specs.Calls.{Call, run}
 use Rattle.journal.specs.Plain.{plainRun, empty}
 use Rattle.journal.specs.Demand.{Demand3}
 use Rattle.journal.specs.Editable.{Editable}
-use Rattle.journal.proofs.Area.{fits-ways, lay-right, area-lawful}
+use Rattle.journal.proofs.Lawful.{fits-ways, area-lawful}
 use Rattle.journal.proofs.Demand.{demand3}
 
 -- ---- the transitions after one word was set

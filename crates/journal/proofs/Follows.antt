@@ -17,16 +17,17 @@ use Rattle.verdict.proofs.Bools.{decided}
 use Rattle.verdict.proofs.Verdict.{then-next, Proper, rule-proper, then-proper}
 use Rattle.wire.specs.Bytes.{put}
 use Rattle.wire.proofs.Put.{length-put}
-use Rattle.journal.specs.declared.Rec.{Rec}
-use Rattle.journal.specs.Record.{size, flip, nothing, recordBytes, recordAt}
+use Rattle.record.specs.declared.Rec.{Rec}
+use Rattle.record.specs.Record.{size, flip, nothing, recordBytes, recordAt}
+use Rattle.record.specs.Kind.{Kind, lay}
+use Rattle.record.proofs.Records.{recordAt-put, recordAt-below}
 use Rattle.journal.specs.Wish.{Wish, paintWish, linkWish, nudgeWish}
-use Rattle.journal.specs.Kind.{Kind, Lawful, Granted, lay, Fits}
+use Rattle.journal.specs.Lawful.{Lawful, Granted, Fits}
 use Rattle.journal.specs.Step.{State, Outcome, next, lent, refusal, unless, recordOf, edited, commonVerdict, rule21, editRules, editVerdict, editStep, undoVerdict, undoStep, redoVerdict, redoStep, unwind, putBackStep}
 use Rattle.journal.specs.Calls.{Call, paint, link, nudge, undo, redo, putBack, step, run}
 use Rattle.journal.specs.Replay.{layAll, Chain}
 use Rattle.journal.specs.Plain.{Plain, plain, empty, floorOf, plainEdit, plainVerdict, plainNext, plainStep, plainRun}
 use Rattle.journal.specs.Demand.{verdictOf}
-use Rattle.journal.proofs.Records.{recordAt-put, recordAt-below}
 use Rattle.journal.proofs.Laying.{fits-is, fits-sized, fits-flip, lay-flip}
 use Rattle.journal.proofs.Replays.{layAll-snoc, layAll-take, chain-none, chain-at, chain-take, chain-snoc, chain-keeps}
 use Rattle.journal.proofs.Steps.{unless-next, unless-stop, met-common, edit-met}

@@ -1,24 +1,18 @@
 -- The laws of records on a lawful kind of floor: the test of 27 is the statement, what was laid on can be taken back, and then the floor
 -- is what it was. Assumes nothing.
 use mathlib.Core.Path.{_≡_, sym, _∙_}
-use mathlib.Core.Bool.{true, _&&_}
+use mathlib.Core.Bool.{true}
 use Prim.Native.Nat.{ℕ, _<_}
 use mathlib.Core.List.{List}
 use native.Mathlib.Omega.{arith}
-use lib.Dec.{ltb, eqb}
-use lib.ListN.{length}
-use borrow.Author.Tests.{ltb-true, lt-ltb, eq-eqb}
-use Rattle.verdict.proofs.Bools.{and-true}
+use borrow.Author.Tests.{lt-ltb, eq-eqb}
 use Rattle.wire.specs.Bytes.{u32At, u32Bytes}
 use Rattle.wire.proofs.Put.{put-put}
-use Rattle.wire.proofs.Numbers.{length-u32, length-put-u32, u32-small, u32-here, put-back}
-use Rattle.journal.specs.declared.Rec.{Rec}
-use Rattle.journal.specs.Record.{Sized, body, flip}
-use Rattle.journal.specs.Kind.{Kind, Lawful, lay, fits, Fits}
-
-pub length-lay : (K : Kind) (fl : List ℕ) (r : Rec) → length (lay K fl r) ≡ length fl
-unfolding lay
-length-lay K fl r = length-put-u32 fl (K .field fl (r .tag) (r .place)) (r .new)
+use Rattle.wire.proofs.Numbers.{length-u32, u32-small, u32-here, put-back}
+use Rattle.record.specs.declared.Rec.{Rec}
+use Rattle.record.specs.Record.{Sized, body, flip}
+use Rattle.record.specs.Kind.{Kind, lay, fits}
+use Rattle.journal.specs.Lawful.{Lawful, Fits}
 
 pub fits-is : (K : Kind) (fl : List ℕ) (r : Rec) → Fits K fl r → fits K fl r ≡ true
 unfolding fits
@@ -29,15 +23,6 @@ fits-is K fl r o =
       eq-eqb (u32At fl (K .field fl (r .tag) (r .place))) (r .old) (o .same),
       o .kind,
     )
-
--- a record that 27 lets through has a place on the floor
-pub fits-inside : (K : Kind) (fl : List ℕ) (r : Rec) → fits K fl r ≡ true → r .place < K .count fl (r .tag)
-unfolding fits
-fits-inside K fl r e =
-    let a = eqb (r .len) body in
-    let b = ltb (r .place) (K .count fl (r .tag)) in
-    let d = eqb (u32At fl (K .field fl (r .tag) (r .place))) (r .old) in
-    ltb-true _ _ (and-true a b (and-true (a && b) d (and-true (a && b && d) (K .allowed (r .tag) (r .old) (r .new)) e .0) .0) .1)
 
 module _ (K : Kind) (A : List ℕ → Type 0) (L : Lawful K A) (fl : List ℕ) (r : Rec) (a : A fl) (o : Fits K fl r) where
   old-word : r .old < 4294967296

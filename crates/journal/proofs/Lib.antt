@@ -1,11 +1,9 @@
-pub mod Records
 pub mod Laying
 pub mod Replays
 pub mod Steps
 pub mod Follows
 pub mod Demand
-pub mod Wishes
-pub mod Area
+pub mod Lawful
 pub mod Refused
 pub mod OneBack
 pub mod Editable

@@ -8,8 +8,8 @@ use lib.ListN.{length, getD, take, drop, length-drop}
 use lib.Seq.{getD-drop, take-all}
 use Rattle.verdict.proofs.Bools.{test}
 use Rattle.wire.specs.Bytes.{u32At}
-use Rattle.journal.specs.Record.{flip, recordAt}
-use Rattle.journal.specs.Kind.{Kind, lay, fits}
+use Rattle.record.specs.Record.{flip, recordAt}
+use Rattle.record.specs.Kind.{Kind, lay, fits}
 use Rattle.journal.specs.Step.{unwindsTo, unwind}
 use Rattle.journal.proofs.Refused.{unwind-more, unwind-stop, unwind-end}
 

@@ -12,11 +12,12 @@ use Rattle.verdict.specs.Verdict.{accepted, rule, _then_}
 use Rattle.verdict.specs.declared.Answer.{Answer}
 use Rattle.verdict.proofs.Bools.{or-false, decided}
 use Rattle.verdict.proofs.Verdict.{then-next, then-stop, then-assoc, passed, unbroken, met}
-use Rattle.journal.specs.declared.Rec.{Rec}
+use Rattle.record.specs.declared.Rec.{Rec}
+use Rattle.record.specs.Record.{size}
+use Rattle.record.specs.Kind.{Kind, lay, fits}
 use Rattle.journal.specs.declared.Session.{Session}
-use Rattle.journal.specs.Record.{size}
 use Rattle.journal.specs.Wish.{Wish, asked}
-use Rattle.journal.specs.Kind.{Kind, lay, fits, oldWord}
+use Rattle.journal.specs.Lawful.{oldWord}
 use Rattle.journal.specs.Step.{State, Outcome, session, left, badSession, rule28, commonVerdict, refusal, unless, full, rule21, editRules, openVerdict, editVerdict, recordOf, edited, editStep, turned, unwindsTo, unwind, putBackStep}
 
 -- ---- the outcome

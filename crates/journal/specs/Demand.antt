@@ -5,9 +5,9 @@ use mathlib.Core.List.{List}
 use lib.ListN.{length, getD, take}
 use Rattle.verdict.specs.Verdict.{refused}
 use Rattle.verdict.specs.declared.Answer.{Answer}
+use Rattle.record.specs.Record.{size, nothing, recordAt}
+use Rattle.record.specs.Kind.{Kind, lay}
 use Rattle.journal.specs.declared.Session.{Session}
-use Rattle.journal.specs.Record.{size, nothing, recordAt}
-use Rattle.journal.specs.Kind.{Kind, lay}
 use Rattle.journal.specs.Step.{State}
 use Rattle.journal.specs.Calls.{Call, putBack, step}
 use Rattle.journal.specs.Replay.{layAll}

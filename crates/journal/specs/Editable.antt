@@ -7,7 +7,7 @@ use mathlib.Core.List.{List}
 use Rattle.wire.specs.Bytes.{Bytes}
 use Rattle.tables.specs.Header.{RightHeader}
 use Rattle.tables.specs.Parts.{partsOf, transition}
-use Rattle.journal.specs.Wish.{linkable}
+use Rattle.record.specs.Allowed.{linkable}
 
 pub record Editable (fl : List ℕ) : Type 0 where
   pub bytes : Bytes fl

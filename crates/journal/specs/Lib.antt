@@ -1,6 +1,5 @@
-pub mod Record
 pub mod Wish
-pub mod Kind
+pub mod Lawful
 pub mod Step
 pub mod Calls
 pub mod Replay

@@ -6,9 +6,9 @@ use lib.ListN.{length, take}
 use lib.Dec.{eqb}
 use Rattle.verdict.specs.Verdict.{accepted, rule}
 use Rattle.verdict.specs.declared.Answer.{Answer}
-use Rattle.journal.specs.declared.Rec.{Rec}
+use Rattle.record.specs.declared.Rec.{Rec}
+use Rattle.record.specs.Kind.{Kind, lay}
 use Rattle.journal.specs.Wish.{Wish, paintWish, linkWish, nudgeWish}
-use Rattle.journal.specs.Kind.{Kind, lay}
 use Rattle.journal.specs.Step.{recordOf, editRules}
 use Rattle.journal.specs.Calls.{Call, paint, link, nudge, undo, redo, putBack}
 use Rattle.journal.specs.Replay.{layAll}

@@ -7,11 +7,12 @@ use lib.Dec.{ltb, eqb}
 use Rattle.verdict.specs.Verdict.{rule, _then_}
 use Rattle.verdict.specs.declared.Answer.{Answer}
 use Rattle.wire.specs.Bytes.{put}
-use Rattle.journal.specs.declared.Rec.{Rec}
+use Rattle.record.specs.declared.Rec.{Rec}
+use Rattle.record.specs.Record.{size, made, flip, recordBytes, recordAt}
+use Rattle.record.specs.Kind.{Kind, lay, fits}
 use Rattle.journal.specs.declared.Session.{Session}
-use Rattle.journal.specs.Record.{size, made, flip, recordBytes, recordAt}
 use Rattle.journal.specs.Wish.{Wish}
-use Rattle.journal.specs.Kind.{Kind, lay, fits, oldWord}
+use Rattle.journal.specs.Lawful.{oldWord}
 
 -- what is lent to a call, with the session: f records kept, cursor k
 pub record State : Type 0 where

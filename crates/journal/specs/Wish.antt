@@ -1,10 +1,9 @@
 -- An edit as it is asked for: paint, link and nudge, with what 22, 23 and 24 ask of each. Definitions only.
-use Prim.Native.Nat.{ℕ, _-_}
-use mathlib.Core.Bool.{Bool, not, cond, _&&_, _||_}
-use lib.IntN.{ℤ, pos, negsuc}
-use lib.Dec.{leb, eqb}
+use Prim.Native.Nat.{ℕ}
+use mathlib.Core.Bool.{Bool}
+use lib.IntN.{ℤ}
 use Rattle.grid.specs.Grid.{mayNudge, nudgeBits}
-use Rattle.mesh.specs.Faces.{walkable}
+use Rattle.record.specs.Allowed.{permitted, mayLink, transitionWord}
 
 -- its tag and place, whether it may be made of the old word, and the new word
 pub record Wish : Type 0 where
@@ -16,24 +15,6 @@ pub record Wish : Type 0 where
 -- an edit whose new word is worked out already, and whether it may be made
 abbrev pub asked : ℕ → ℕ → Bool → ℕ → Wish
 asked tag place ok word = record { tag = tag; place = place; may = λ old. ok; new = λ old. word }
-
--- 22 does not refuse: neither old nor new material is over 22, and both are walkable or neither is
-unfoldable pub permitted : ℕ → ℕ → Bool
-permitted old new = leb old 22 && leb new 22 && cond (walkable old) (walkable new) (not (walkable new))
-
--- 23 does not refuse: a transition from -1 to 63
-unfoldable pub mayLink : ℤ → Bool
-mayLink (pos n) = leb n 63
-mayLink (negsuc n) = eqb n 0
-
--- the same of a transition's 32 bits
-unfoldable pub linkable : ℕ → Bool
-linkable word = leb word 63 || eqb word 4294967295
-
--- the 32 bits of a transition
-unfoldable pub transitionWord : ℤ → ℕ
-transitionWord (pos n) = n
-transitionWord (negsuc n) = 4294967295 - n
 
 -- tag 1 paint: place is a face
 abbrev pub paintWish : ℕ → ℕ → Wish

@@ -1,5 +1,7 @@
 // The journal: paint, link, nudge, undo, redo and put-back over a floor and a journal that the caller lends.
 use record::SIZE;
+use record::rules;
+use record::words;
 use verdict::Answer;
 ghost use mathlib.Core.Path.{_≡_};
 ghost use mathlib.Core.Bool.{true};
@@ -8,15 +10,11 @@ ghost use lib.ListN.{length};
 ghost use Rattle.verdict.specs.Verdict.{_then_};
 ghost use Rattle.wire.specs.Bytes.{put};
 ghost use Rattle.tables.specs.Header.{headerVerdict, RightHeader};
-ghost use Rattle.journal.specs.Record.{size, recordBytes};
+ghost use Rattle.record.specs.Record.{size, recordBytes};
+ghost use Rattle.record.specs.Kind.{lay};
+ghost use Rattle.record.specs.Area.{areaCount, areaFloor};
 ghost use Rattle.journal.specs.Wish.{asked, paintWish, linkWish, nudgeWish};
-ghost use Rattle.journal.specs.Kind.{lay};
 ghost use Rattle.journal.specs.Step.{lent, left, session, badSession, rule28, full, rule21, openVerdict, recordOf, editStep, undoStep, redoStep, unwindsTo, unwind, putBackStep};
-ghost use Rattle.journal.specs.Calls.{areaCount, areaFloor};
-
-mod record;
-mod rules;
-mod words;
 
 // What a call answers: a number of document 01, 0 where it was done, a place, and the session, f records kept and cursor k.
 #[repr(C)]
@@ -25,15 +23,6 @@ pub struct Session {
     pub place: u32,
     pub f: u32,
     pub k: u32,
-}
-
-// A journal record as it stands.
-pub struct Rec {
-    pub tag: u8,
-    pub len: u32,
-    pub place: u32,
-    pub old: u32,
-    pub new: u32,
 }
 
 // 28

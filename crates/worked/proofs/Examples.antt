@@ -35,11 +35,12 @@ use Rattle.border.specs.Loops.{standsIn, wrongEdge, missing, rule17, wrongTrans
 use Rattle.floor.specs.Groups.{rules1to19}
 use Rattle.floor.specs.Reader.{rule20, readerVerdict, walkableFaces, answerOf, readerAnswer}
 use Rattle.floor.proofs.Order.{by-groups}
-use Rattle.journal.specs.Record.{recordBytes}
-use Rattle.journal.specs.Wish.{permitted}
-use Rattle.journal.specs.Kind.{lay}
+use Rattle.record.specs.Record.{recordBytes}
+use Rattle.record.specs.Allowed.{permitted}
+use Rattle.record.specs.Kind.{lay}
+use Rattle.record.specs.Area.{areaCount, areaField}
 use Rattle.journal.specs.Step.{badSession, rule28, commonVerdict, unless, full, rule21, editRules, editVerdict, editStep}
-use Rattle.journal.specs.Calls.{areaCount, areaField, step, run}
+use Rattle.journal.specs.Calls.{step, run}
 use Rattle.query.specs.Rules.{rule29, rule30, offGrid, queryVerdict}
 use Rattle.query.specs.Points.{cornerAt, faceHolds, boxHolds, lowestFace, visitedNodes, replyOf, pointOf, pointAnswer}
 use Rattle.worked.specs.Worked.{Deed, read, pair, ask, call, nudge, told, gives, Case, Right, triangle, square, worked}

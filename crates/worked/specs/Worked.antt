@@ -14,8 +14,9 @@ use Rattle.border.specs.Halves.{pairing}
 use Rattle.floor.specs.Reader.{readerAnswer}
 use Rattle.floor.specs.declared.Floor.{Floor}
 use Rattle.query.specs.Points.{pointAnswer}
+use Rattle.record.specs.Area.{areaFloor}
 use Rattle.journal.specs.Step.{Outcome, lent}
-use Rattle.journal.specs.Calls.{Call, paint, areaFloor, step, run}
+use Rattle.journal.specs.Calls.{Call, paint, step, run}
 use Rattle.query.specs.declared.Point.{Point}
 
 -- what is done: a file of some bytes and then so many zeros is read; half-edges of a file are paired; a floor is asked for the

@@ -5,9 +5,10 @@ use mir.Syntax.{w32}
 use mir.ValLaws.{toZ-ofZ}
 use denote.Ref.{now}
 use Rattle.verdict.specs.declared.Answer.{Answer}
-use Rattle.journal.specs.Wish.{linkWish, mayLink, transitionWord}
+use Rattle.record.specs.Allowed.{mayLink, transitionWord}
+use Rattle.record.specs.Area.{areaFloor}
+use Rattle.journal.specs.Wish.{linkWish}
 use Rattle.journal.specs.Step.{lent, commonVerdict, openVerdict}
-use Rattle.journal.specs.Calls.{areaFloor}
 use Rattle.journal.proofs.Steps.{edit-stops, edit-as}
 use Rattle.journal.proofs.link.Statement.{statement}
 use Rattle.journal.proofs.link.Tie as tie

@@ -9,10 +9,10 @@ use Rattle.verdict.specs.declared.Answer.{Answer}
 use Rattle.wire.specs.Bytes.{u32At}
 use Rattle.grid.specs.Answers.{nudgedAt}
 use Rattle.grid.proofs.Answers.{ok-is, bits-moved}
+use Rattle.record.specs.Area.{areaField, areaFloor}
+use Rattle.record.proofs.Allowed.{wide}
 use Rattle.journal.specs.Wish.{nudgeWish}
 use Rattle.journal.specs.Step.{lent, commonVerdict, openVerdict}
-use Rattle.journal.specs.Calls.{areaField, areaFloor}
-use Rattle.journal.proofs.Wishes.{wide}
 use Rattle.journal.proofs.Steps.{open-met, edit-stops, edit-as}
 use Rattle.journal.proofs.nudge.Statement.{statement}
 use Rattle.journal.proofs.nudge.Tie as tie

@@ -4,9 +4,10 @@ use mathlib.Core.Path.{_≡_, refl, sym, ap, _∙_}
 use Prim.Native.Nat.{ℕ}
 use denote.Ref.{now}
 use Rattle.verdict.specs.declared.Answer.{Answer}
-use Rattle.journal.specs.Wish.{paintWish, permitted}
+use Rattle.record.specs.Allowed.{permitted}
+use Rattle.record.specs.Area.{areaFloor}
+use Rattle.journal.specs.Wish.{paintWish}
 use Rattle.journal.specs.Step.{lent, commonVerdict, openVerdict}
-use Rattle.journal.specs.Calls.{areaFloor}
 use Rattle.journal.proofs.Steps.{open-met, edit-stops, edit-as}
 use Rattle.journal.proofs.paint.Statement.{statement}
 use Rattle.journal.proofs.paint.Tie as tie

@@ -4,8 +4,8 @@ use native.Mathlib.Omega.{arith}
 use mathlib.Core.Path.{_≡_, sym, ap, _∙_}
 use denote.Ref.{now}
 use Rattle.verdict.specs.declared.Answer.{Answer}
+use Rattle.record.specs.Area.{areaFloor}
 use Rattle.journal.specs.Step.{lent, commonVerdict}
-use Rattle.journal.specs.Calls.{areaFloor}
 use Rattle.journal.proofs.Steps.{CommonMet, common-met, back-stops, back-done, back-unfit}
 use Rattle.journal.proofs.put_back.Statement.{statement}
 use Rattle.journal.proofs.put_back.Tie as tie

@@ -7,9 +7,9 @@ use lib.ListN.{length, take, drop, length-drop}
 use denote.Ref.{now}
 use borrow.Author.Tests.{eq-eqb, ne-eqb}
 use Rattle.verdict.specs.declared.Answer.{Answer}
-use Rattle.journal.specs.Record.{size}
+use Rattle.record.specs.Record.{size}
+use Rattle.record.specs.Area.{areaFloor}
 use Rattle.journal.specs.Step.{lent, commonVerdict, unwindsTo, unwind, undoVerdict, undoStep}
-use Rattle.journal.specs.Calls.{areaFloor}
 use Rattle.journal.proofs.Steps.{CommonMet, common-met, turn-stops, turn-none, turn-done, turn-unfit}
 use Rattle.journal.proofs.OneBack.{part-all, one-back, none-back}
 use Rattle.journal.proofs.undo.Statement.{statement}

@@ -6,11 +6,11 @@ use mathlib.Core.Path.{_≡_, refl, sym, ap, _∙_}
 use lib.ListN.{length}
 use borrow.Author.Tests.{not-true, not-false}
 use Rattle.tables.specs.Header.{RightHeader}
-use Rattle.journal.specs.Record.{size, flip, recordAt}
+use Rattle.record.specs.Record.{size, flip, recordAt}
+use Rattle.record.specs.Area.{areaFloor}
+use Rattle.record.proofs.Laying.{fits-inside}
+use Rattle.record.proofs.Area.{lay-right}
 use Rattle.journal.specs.Step.{unwind}
-use Rattle.journal.specs.Calls.{areaFloor}
-use Rattle.journal.proofs.Laying.{fits-inside}
-use Rattle.journal.proofs.Area.{lay-right}
 use Rattle.journal.proofs.Refused.{unwind-turn, unwind-halt, unwind-end}
 use Rattle.journal.proofs.unwind_from.Statement.{statement}
 use Rattle.journal.proofs.unwind_from.Tie as tie

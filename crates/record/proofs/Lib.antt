@@ -1,0 +1,4 @@
+pub mod Records
+pub mod Laying
+pub mod Allowed
+pub mod Area

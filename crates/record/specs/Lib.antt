@@ -1,0 +1,4 @@
+pub mod Record
+pub mod Allowed
+pub mod Kind
+pub mod Area

@@ -1,0 +1,82 @@
+// One record of the journal: its bytes here, what may be written in `rules`, and the record laid on a floor in `words`. This file and
+// specs/Record.antt are all that knows a record's form.
+ghost use mathlib.Core.Path.{_≡_};
+ghost use Prim.Native.Nat.{_+_, _≤_};
+ghost use lib.ListN.{length};
+ghost use Rattle.wire.specs.Bytes.{put};
+ghost use Rattle.record.specs.Record.{size, made, flip, recordBytes, recordAt};
+
+pub mod rules;
+pub mod words;
+
+// The bytes that a record takes, and what its length field says.
+pub const SIZE: usize = 15;
+
+pub(crate) const BODY: u32 = 12;
+
+// A journal record as it stands.
+pub struct Rec {
+    pub tag: u8,
+    pub len: u32,
+    pub place: u32,
+    pub old: u32,
+    pub new: u32,
+}
+
+// The record at a place of the journal.
+pub fn get_record(journal: &[u8], at: usize) -> Rec
+    requires { ⌜ at + size ≤ length (now journal) ⌝ }
+    ensures { λ r. ⌜ r ≡ recordAt (now (journal .entry)) at ⌝ }
+{
+    Rec {
+        tag: journal[at],
+        len: wire::wide(journal[at + 1]) + 256 * wire::wide(journal[at + 2]),
+        place: wire::u32_at(journal, at + 3),
+        old: wire::u32_at(journal, at + 7),
+        new: wire::u32_at(journal, at + 11),
+    }
+}
+
+// A record written at a place of the journal.
+pub fn put_record(journal: &mut [u8], at: usize, r: Rec)
+    requires { ⌜ at + size ≤ length (now journal) ⌝ }
+    ensures { λ _. ⌜ now (journal .exit) ≡ put (now (journal .entry)) at (recordBytes r) ⌝ }
+{
+    let tag = r.tag;
+    let len = r.len;
+    let place = r.place;
+    let old = r.old;
+    let new = r.new;
+    journal[at] = tag;
+    journal[at + 1] = (len % 256) as u8;
+    journal[at + 2] = (len / 256 % 256) as u8;
+    wire::put_u32(journal, at + 3, place);
+    wire::put_u32(journal, at + 7, old);
+    wire::put_u32(journal, at + 11, new);
+}
+
+// A record as an edit makes it.
+pub fn make(tag: u8, place: u32, old: u32, new: u32) -> Rec
+    ensures { λ r. ⌜ r ≡ made tag place old new ⌝ }
+{
+    Rec {
+        tag,
+        len: BODY,
+        place,
+        old,
+        new,
+    }
+}
+
+// The record that takes a record back.
+pub fn flipped(r: Rec) -> Rec
+    ensures { λ b. ⌜ b ≡ flip r ⌝ }
+{
+    Rec {
+        tag: r.tag,
+        len: r.len,
+        place: r.place,
+        old: r.new,
+        new: r.old,
+    }
+}
