@@ -11,7 +11,7 @@ use Rattle.text.specs.Scan.{words, lineAt}
 use Rattle.text.specs.Reading.{nth}
 use Rattle.layout.specs.declared.Layout.{Layout}
 use Rattle.layout.specs.Rewrite.{roomNames}
-use Rattle.layout.specs.Starts.{Answered}
+use Rattle.layout.specs.Starts.{keptName, Answered}
 use Rattle.layout.proofs.HeldLaws.{room-name}
 use Rattle.layout.proofs.AnswerLaws.{rooms-are, names-are}
 use Rattle.caption.specs.Caption.{hasRoom, roomName, captionOf, captionNumber}
@@ -31,6 +31,11 @@ module _ (s : List ℕ) (r : Layout) (sized : length (r .starts) ≡ 192) (a : A
   unfolding roomName
   its-name i l u h el eu =
       eu ∙ rw (el, ← (names-are s r sized a)) (sym (room-name s (r .starts) (r .rooms) i (omega (arith, a .held .few-rooms)) h))
+
+  -- the name at a kept start is the room's
+  pub kept-name : (k : ℕ) → k < r .rooms → keptName s (r .starts) k ≡ roomName s k
+  unfolding keptName
+  kept-name k h = rw (lt-ltb k (length (r .starts)) (omega (arith, a .held .few-rooms))) (its-name k _ _ h refl refl)
 
 -- ---- the visitor's text, then the house text
 

@@ -1,5 +1,4 @@
 -- `engine::wp_link` meets its contract. Assumes nothing.
-use mathlib.Core.Path.{_∙_}
 use Rattle.record.specs.Area.{areaFloor}
 use Rattle.journal.specs.Wish.{linkWish}
 use Rattle.journal.specs.Step.{lent, editStep}
@@ -20,7 +19,7 @@ same-length-2 c = search needs
 returns : tie.Need-returns
 returns c =
     let a = c .before .before .before .before .before .before .before .before .before in
-    c .before .before .before .before .link .ensures ∙ handed (λ z. editStep areaFloor (linkWish (a .args .entry) z) (lent (a .args .floor .now) (a .args .journal .now) (a .args .f) (a .args .k))) (a .args .transition) (a .fits .transition)
+    handed (λ z. editStep areaFloor (linkWish (a .args .entry) z) (lent (a .args .floor .now) (a .args .journal .now) (a .args .f) (a .args .k))) (a .args .transition) (a .fits .transition) (c .before .before .before .before .link .ensures)
 
 pub wp-link-spec : {M : Type 1} → statement M
 wp-link-spec = tie.close (tie.spec link-requires same-length same-length-2 returns)

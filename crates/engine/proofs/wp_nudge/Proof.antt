@@ -1,5 +1,4 @@
 -- `engine::wp_nudge` meets its contract. Assumes nothing.
-use mathlib.Core.Path.{_∙_}
 use Rattle.record.specs.Area.{areaFloor}
 use Rattle.journal.specs.Wish.{nudgeWish}
 use Rattle.journal.specs.Step.{lent, editStep}
@@ -20,7 +19,7 @@ same-length-2 c = search needs
 returns : tie.Need-returns
 returns c =
     let a = c .before .before .before .before .before .before .before .before .before in
-    c .before .before .before .before .nudge .ensures ∙ handed (λ z. editStep areaFloor (nudgeWish (a .args .place) z) (lent (a .args .floor .now) (a .args .journal .now) (a .args .f) (a .args .k))) (a .args .step) (a .fits .step)
+    handed (λ z. editStep areaFloor (nudgeWish (a .args .place) z) (lent (a .args .floor .now) (a .args .journal .now) (a .args .f) (a .args .k))) (a .args .step) (a .fits .step) (c .before .before .before .before .nudge .ensures)
 
 pub wp-nudge-spec : {M : Type 1} → statement M
 wp-nudge-spec = tie.close (tie.spec nudge-requires same-length same-length-2 returns)

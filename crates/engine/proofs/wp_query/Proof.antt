@@ -1,5 +1,4 @@
 -- `engine::wp_query` meets its contract. Assumes nothing.
-use mathlib.Core.Path.{_∙_}
 use lib.ListN.{length}
 use Rattle.query.specs.Points.{pointAnswer}
 use borrow.Author.Needs.{needs}
@@ -16,7 +15,7 @@ same-length c = search needs
 returns : tie.Need-returns
 returns c =
     let a = c .before .before .before .before .before .before in
-    (c .before .before .query .ensures .0 ∙ handed-both (pointAnswer (a .args .bytes .now) (length (a .args .work .now))) (a .args .x) (a .args .y) (a .fits .x) (a .fits .y), c .before .before .query .ensures .1)
+    (handed-both (pointAnswer (a .args .bytes .now) (length (a .args .work .now))) (a .args .x) (a .args .y) (a .fits .x) (a .fits .y) (c .before .before .query .ensures .0), c .before .before .query .ensures .1)
 
 pub wp-query-spec : {M : Type 1} → statement M
 wp-query-spec = tie.close (tie.spec query-requires same-length returns)

@@ -1,4 +1,5 @@
 -- `sight::sight_rewrite` meets its contract. Assumes nothing.
+use mathlib.Core.List.{[]}
 use mathlib.Core.Path.{_≡_, refl, sym, ap, _∙_}
 use native.Mathlib.Omega.{arith}
 use lib.ListN.{length}
@@ -45,7 +46,7 @@ same-length : tie.Need-same-length
 same-length c = search needs
 
 returns-3 : tie.Need-returns-3
-returns-3 c = rewrite-by _ _ _ (sized (c .before .before .before .before .before .before .before .before .before .before .before .before .before .before)) (c .before .before .before .before .before .before .before .before .before .before .before .before .before .before .read .ensures) (c .before .before .before .before .before .before .before .before .before .before .before .before .before .before .before .before .before .before .args .out .now) _ (c .before .before .before .before .before .before .before .before .before .before .before .look .ensures) _ _ _ (c .before .before .before .before .before .before .before .before .before .if2 .left) (c .before .before .write-form .ensures)
+returns-3 c = rewrite-by _ _ _ (sized (c .before .before .before .before .before .before .before .before .before .before .before .before .before .before)) (c .before .before .before .before .before .before .before .before .before .before .before .before .before .before .read .ensures) (c .before .before .before .before .before .before .before .before .before .before .before .before .before .before .before .before .before .before .args .out .now) _ (c .before .before .before .before .before .before .before .before .before .before .before .look .ensures) [] _ _ (c .before .before .before .before .before .before .before .before .before .if2 .left) (c .before .before .write-form .ensures .0, c .before .before .write-form .ensures .1)
 
 pub sight-rewrite-spec : {M : Type 1} → statement M
 sight-rewrite-spec =
