@@ -12,8 +12,8 @@ use Rattle.verdict.specs.Verdict.{accepted, rule, ruleOfEach}
 use Rattle.verdict.proofs.Bools.{clash, test, decided, and-false, or-false, false-or, not-of-true}
 use Rattle.verdict.proofs.Lowest.{none-under, under-none, some-under, found-under}
 use Rattle.verdict.proofs.Verdict.{each-met, each-passes, then-both, passed, unbroken, met}
-use Rattle.tables.specs.Parts.{Parts, edgeOf, transition}
-use Rattle.border.specs.Halves.{none32, halves, border}
+use Rattle.tables.specs.Parts.{none32, Parts, edgeOf, transition}
+use Rattle.border.specs.Halves.{halves, border}
 use Rattle.border.specs.Loops.{standsIn, wrongEdge, missing, rule17, wrongTransition, rule18}
 use Rattle.border.specs.Plain.{OneEntry, Bordered, Linked}
 use Rattle.border.proofs.Paired.{border-of, border-to}

@@ -9,9 +9,9 @@ use borrow.Author.Tests.{lt-ltb, le-ltb, eq-eqb, ne-eqb, ltb-true, eqb-true, not
 use Rattle.verdict.proofs.Bools.{test, and-true}
 use Rattle.verdict.proofs.Verdict.{passed, each-met}
 use Rattle.tables.specs.Header.{RightHeader}
-use Rattle.tables.specs.Parts.{Parts, partsOf, adjacentTo}
+use Rattle.tables.specs.Parts.{none32, Parts, partsOf, adjacentTo}
 use Rattle.tables.proofs.Reading.{sized-of}
-use Rattle.border.specs.Halves.{none32, halves, repeats, partner, border, pairing, wrongAdjacent, rule15, rule16, rules15to16, RightPairs}
+use Rattle.border.specs.Halves.{halves, repeats, partner, border, pairing, wrongAdjacent, rule15, rule16, rules15to16, RightPairs}
 
 -- ---- the counts of a right header
 

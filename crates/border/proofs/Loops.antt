@@ -7,8 +7,7 @@ use native.Mathlib.Omega.{arith}
 use native.Mathlib.Numerals.{add-one}
 use lib.Dec.{eqb}
 use borrow.Author.Tests.{eq-eqb, ne-eqb, lt-ltb, le-ltb}
-use Rattle.tables.specs.Parts.{Parts, transition, loopEnd}
-use Rattle.border.specs.Halves.{none32}
+use Rattle.tables.specs.Parts.{none32, Parts, transition, loopEnd}
 use Rattle.border.specs.Loops.{wrongTransition, loopStart, after, openRun, wrongLoop}
 
 -- a transition up to 63, and one past it

@@ -11,8 +11,8 @@ use Rattle.verdict.specs.Verdict.{accepted}
 use Rattle.verdict.proofs.Bools.{clash, test, decided, and-true, true-and, not-of-true, not-of-false}
 use Rattle.verdict.proofs.Lowest.{lowest-is, none-under, under-none}
 use Rattle.verdict.proofs.Verdict.{each-passes, then-both}
-use Rattle.tables.specs.Parts.{Parts, adjacentTo}
-use Rattle.border.specs.Halves.{none32, halves, from, to, runs, repeats, partner, border, pairing, wrongAdjacent, rule15, rule16, rules15to16, RightPairs}
+use Rattle.tables.specs.Parts.{none32, Parts, adjacentTo}
+use Rattle.border.specs.Halves.{halves, from, to, runs, repeats, partner, border, pairing, wrongAdjacent, rule15, rule16, rules15to16, RightPairs}
 use Rattle.border.specs.Plain.{Opposite, Alone, Apart, Paired, Border}
 use Rattle.border.proofs.Halves.{own-run, pairing-right}
 

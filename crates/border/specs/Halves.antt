@@ -7,11 +7,7 @@ use lib.Dec.{eqb, ltb}
 use Rattle.verdict.specs.Lowest.{lowest, anyUnder}
 use Rattle.verdict.specs.Verdict.{ruleOfEach, _then_}
 use Rattle.verdict.specs.declared.Answer.{Answer}
-use Rattle.tables.specs.Parts.{Parts, corner, adjacentTo}
-
--- -1 as 32 bits: no partner, no transition
-abbrev pub none32 : ℕ
-none32 = 0xFFFF_FFFF
+use Rattle.tables.specs.Parts.{none32, Parts, corner, adjacentTo}
 
 -- the number of half-edges of walkable faces
 abbrev pub halves : Parts → ℕ

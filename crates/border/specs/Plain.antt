@@ -2,8 +2,8 @@
 use Prim.Native.Nat.{ℕ, _+_, _<_, _≤_}
 use mathlib.Core.Path.{_≡_}
 use mathlib.Core.Logic.{_⊎_}
-use Rattle.tables.specs.Parts.{Parts, adjacentTo, edgeOf, transition, loopEnd}
-use Rattle.border.specs.Halves.{none32, halves, from, to}
+use Rattle.tables.specs.Parts.{none32, Parts, adjacentTo, edgeOf, transition, loopEnd}
+use Rattle.border.specs.Halves.{halves, from, to}
 use Rattle.border.specs.Loops.{loopStart}
 
 -- g and h run opposite ways between the same two vertex numbers: they are partners

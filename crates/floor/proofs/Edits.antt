@@ -13,13 +13,12 @@ use Rattle.verdict.specs.Lists.{times}
 use Rattle.verdict.specs.declared.Answer.{Answer}
 use Rattle.verdict.proofs.Bools.{decided}
 use Rattle.tables.specs.Plain.{SoundHeader}
-use Rattle.tables.specs.Parts.{Parts, partsOf, tableOf, wordIndex, wordOf, material, edgeOf, transition, withWord, withFloat}
+use Rattle.tables.specs.Parts.{none32, Parts, partsOf, tableOf, wordIndex, wordOf, material, edgeOf, transition, withWord, withFloat}
 use Rattle.tables.specs.Fixed.{Sized}
 use Rattle.tables.proofs.Right.{sound-header}
 use Rattle.tables.proofs.Reading.{sized-of}
 use Rattle.mesh.specs.Faces.{walkable, walkables}
 use Rattle.mesh.specs.Mesh.{IsFinite, Walkable, Painted}
-use Rattle.border.specs.Halves.{none32}
 use Rattle.border.specs.Plain.{Linked}
 use Rattle.floor.specs.Sound.{Sound}
 use Rattle.floor.proofs.Kept.{edited, mesh-kept, nodes-kept, tree-kept, boxes-kept, borders-kept}

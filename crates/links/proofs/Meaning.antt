@@ -12,14 +12,14 @@ use Rattle.verdict.specs.Verdict.{_then_, accepted}
 use Rattle.verdict.specs.declared.Answer.{Answer}
 use Rattle.verdict.proofs.Bools.{test}
 use Rattle.verdict.proofs.Verdict.{then-assoc, passed, then-both, each-met, each-passes}
-use Rattle.tables.specs.Parts.{Parts, partsOf, transition}
+use Rattle.tables.specs.Parts.{none32, Parts, partsOf, transition}
 use Rattle.floor.specs.Reader.{readerVerdict}
 use Rattle.floor.proofs.Meaning.{accepted-sound, sound-accepted, room-is-enough}
 use Rattle.layout.specs.Layout.{layoutVerdict}
 use Rattle.layout.specs.Rewrite.{roomNames, roomsOf}
 use Rattle.layout.specs.declared.Rooms.{Rooms}
 use Rattle.layout.proofs.ReadLaws.{verdict-proper}
-use Rattle.links.specs.Links.{none32, astray, rule42, linkVerdict}
+use Rattle.links.specs.Links.{astray, rule42, linkVerdict}
 use Rattle.links.specs.Plain.{Joined}
 
 -- ---- one transition

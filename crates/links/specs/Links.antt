@@ -6,16 +6,12 @@ use lib.ListN.{length}
 use lib.Dec.{leb, eqb}
 use Rattle.verdict.specs.Verdict.{ruleOfEach, _then_}
 use Rattle.verdict.specs.declared.Answer.{Answer}
-use Rattle.tables.specs.Parts.{Parts, partsOf, transition}
+use Rattle.tables.specs.Parts.{none32, Parts, partsOf, transition}
 use Rattle.floor.specs.Reader.{readerVerdict}
 use Rattle.layout.specs.Layout.{layoutVerdict}
 use Rattle.layout.specs.Rewrite.{roomNames}
 
--- -1 as 32 bits: it is under every count of rooms
-abbrev pub none32 : ℕ
-none32 = 4294967295
-
--- the transition of edge entry i is not under so many rooms
+-- the transition of edge entry i is not under so many rooms; -1 is under every number
 unfoldable pub astray : Parts → ℕ → ℕ → Bool
 astray p rooms i = not (eqb (transition p i) none32) && leb rooms (transition p i)
 

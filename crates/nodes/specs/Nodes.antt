@@ -4,11 +4,7 @@ use mathlib.Core.Bool.{Bool, not, _&&_, _||_}
 use lib.Dec.{eqb, ltb, leb}
 use Rattle.verdict.specs.Verdict.{rule, ruleOfEach, _then_}
 use Rattle.verdict.specs.declared.Answer.{Answer}
-use Rattle.tables.specs.Parts.{Parts, nodeWord}
-
--- 0xFFFFFFFF: no face, no child
-abbrev pub none32 : ℕ
-none32 = 4294967295
+use Rattle.tables.specs.Parts.{none32, Parts, nodeWord}
 
 -- the shape of a table of nodes: which are inner, and their children
 pub record Nodes : Type 0 where

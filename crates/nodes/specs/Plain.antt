@@ -4,8 +4,8 @@ use Prim.Native.Nat.{ℕ, _*_, _-_, _<_}
 use mathlib.Core.Path.{_≡_}
 use mathlib.Core.Logic.{_⊎_}
 use mathlib.Core.Bool.{true, false}
-use Rattle.tables.specs.Parts.{Parts}
-use Rattle.nodes.specs.Nodes.{none32, faceOf, planeOf, leftOf, rightOf, nodesOf}
+use Rattle.tables.specs.Parts.{none32, Parts}
+use Rattle.nodes.specs.Nodes.{faceOf, planeOf, leftOf, rightOf, nodesOf}
 
 -- plane 1, 2, 3 or -1, -2, -3 as 32 bits
 abbrev pub Plane : ℕ → Type 0

@@ -3,6 +3,7 @@ use Prim.Native.Nat.{ℕ, _-_}
 use mathlib.Core.Bool.{Bool, not, cond, _&&_, _||_}
 use lib.IntN.{ℤ, pos, negsuc}
 use lib.Dec.{leb, eqb}
+use Rattle.tables.specs.Parts.{none32}
 use Rattle.mesh.specs.Faces.{walkable}
 
 -- 22 does not refuse: neither old nor new material is over 22, and both are walkable or neither is
@@ -16,7 +17,7 @@ mayLink (negsuc n) = eqb n 0
 
 -- the same of a transition's 32 bits
 unfoldable pub linkable : ℕ → Bool
-linkable word = leb word 63 || eqb word 4294967295
+linkable word = leb word 63 || eqb word none32
 
 -- the 32 bits of a transition
 unfoldable pub transitionWord : ℤ → ℕ

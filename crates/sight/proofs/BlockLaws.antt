@@ -23,7 +23,7 @@ use Rattle.layout.proofs.Accepts.{Full}
 use Rattle.sight.specs.declared.Looking.{Looking}
 use Rattle.sight.specs.Rows.{sees, withMark}
 use Rattle.sight.specs.Grammar.{State, Reading, roomOf, roomFault, seenFault, observerFault, lineFault, movedTo, rowsBehind, fault, next, finish, sightGrammar}
-use Rattle.sight.specs.Plain.{In, Once, NamesRoom, NameLines, Seer, Block}
+use Rattle.sight.specs.Plain.{In, Once, NamesRoom, NameLines, Observer, Block}
 use Rattle.sight.proofs.RoomLaws.{room-within, room-is}
 use Rattle.sight.proofs.RowsGood.{seen-faults, observer-faults, room-known, room-new}
 use Rattle.sight.proofs.FreshLaws.{Fresh, marksOf, fresh-once}
@@ -206,16 +206,16 @@ module _ (names : List Word) where
 
   -- an observer and its list, and what stands behind them
   pub record Told (told : ℕ) (rows : List ℕ) (ls : List Line) (u : List ℕ) : Type 0 where
-    pub seer : Seer
+    pub observer : Observer
     pub own : List Line
     pub behind : List Line
     pub cut : ls ≡ own ++ behind
-    pub block : Block names seer own
-    pub new : sees told (seer .room) ≡ false
-    pub fresh : Fresh (getD rows (seer .room) 0) (seer .list)
+    pub block : Block names observer own
+    pub new : sees told (observer .room) ≡ false
+    pub fresh : Fresh (getD rows (observer .room) 0) (observer .list)
     pub full : Each Full behind
     pub shorter : length behind < length ls
-    pub goes-on : Accepts (look (seer .room) 0 (withMark told (seer .room)) (set rows (seer .room) (marksOf (getD rows (seer .room) 0) (seer .list)))) behind u
+    pub goes-on : Accepts (look (observer .room) 0 (withMark told (observer .room)) (set rows (observer .room) (marksOf (getD rows (observer .room) 0) (observer .list)))) behind u
 
   pub accepts-block : (o told : ℕ) (rows : List ℕ) (l : Line) (ls : List Line) (u : List ℕ) → length names ≤ length rows → Full l → Each Full ls → Accepts (look o 0 told rows) (l ∷ ls) u → Told told rows (l ∷ ls) u
   accepts-block o told rows [] ls u b f fs h = absurd (f .some refl)
@@ -228,7 +228,7 @@ module _ (names : List Word) where
     where
       of : length (w ∷ ws) ≡ 2 → NamesRoom names w (roomOf names w) → isCount (nth (w ∷ ws) 1) ≡ true → sees told (roomOf names w) ≡ false → Taken (roomOf names w) (value 0 (nth (w ∷ ws) 1)) (withMark told (roomOf names w)) rows ls u → Told told rows ((w ∷ ws) ∷ ls) u
       of two named count new q = record {
-        seer = record { room = roomOf names w; list = q .list };
+        observer = record { room = roomOf names w; list = q .list };
         own = (w ∷ ws) ∷ q .own;
         behind = q .behind;
         cut = ap (λ (x : List Line). (w ∷ ws) ∷ x) (q .cut);
@@ -240,7 +240,7 @@ module _ (names : List Word) where
         goes-on = q .goes-on;
       }
 
-  pub block-accepts : Apart names → (o told : ℕ) (rows : List ℕ) (b : Seer) (own ls : List Line) (u : List ℕ) → length names ≤ length rows → Block names b own → sees told (b .room) ≡ false → Fresh (getD rows (b .room) 0) (b .list) → Accepts (look (b .room) 0 (withMark told (b .room)) (set rows (b .room) (marksOf (getD rows (b .room) 0) (b .list)))) ls u → Accepts (look o 0 told rows) (own ++ ls) u
+  pub block-accepts : Apart names → (o told : ℕ) (rows : List ℕ) (b : Observer) (own ls : List Line) (u : List ℕ) → length names ≤ length rows → Block names b own → sees told (b .room) ≡ false → Fresh (getD rows (b .room) 0) (b .list) → Accepts (look (b .room) 0 (withMark told (b .room)) (set rows (b .room) (marksOf (getD rows (b .room) 0) (b .list)))) ls u → Accepts (look o 0 told rows) (own ++ ls) u
   block-accepts a o told rows b own ls u w g n f h = rw (g .spelled) (head-accepts (g .head) (g .two) (g .observer) (g .right) (g .told))
     where
       list : Accepts (look (b .room) (length (g .list)) (withMark told (b .room)) rows) (g .list ++ ls) u

@@ -23,7 +23,7 @@ use Rattle.layout.proofs.Accepts.{Full, spoken-full}
 use Rattle.sight.specs.Rows.{sees, withMark, noRows}
 use Rattle.sight.specs.Grammar.{Reading, start}
 use Rattle.sight.specs.Sight.{grammar, sightVerdict, rowsOf}
-use Rattle.sight.specs.Plain.{In, Once, Seer, Block, Then, Blocks, Spelled, Sees, Marked}
+use Rattle.sight.specs.Plain.{In, Once, Observer, Block, Then, Blocks, Spelled, Sees, Marked}
 use Rattle.sight.proofs.MarkLaws.{sees-past}
 use Rattle.sight.proofs.RowsGood.{no-row, grammar-sane}
 use Rattle.sight.proofs.SightLaws.{few-names, names-apart, sight-passed, sight-sound, rows-sound, rows-accepted}
@@ -32,36 +32,36 @@ use Rattle.sight.proofs.BlockLaws.{with, look, Accepts, read-any, accep
 
 -- ---- observers, one after the other
 
-abbrev rooms : List Seer → List ℕ
-rooms bs = map (λ (b : Seer). b .room) bs
+abbrev rooms : List Observer → List ℕ
+rooms bs = map (λ (b : Observer). b .room) bs
 
 -- the rows behind an observer, and behind all of them
-abbrev laidOne : List ℕ → Seer → List ℕ
+abbrev laidOne : List ℕ → Observer → List ℕ
 laidOne rows b = set rows (b .room) (marksOf (getD rows (b .room) 0) (b .list))
 
-unfoldable laid : List ℕ → List Seer → List ℕ
+unfoldable laid : List ℕ → List Observer → List ℕ
 laid rows [] = rows
 laid rows (b ∷ bs) = laid (laidOne rows b) bs
 
 -- each list in its turn sets marks that are not set yet
-abbrev Turns : List ℕ → List Seer → Type 0
+abbrev Turns : List ℕ → List Observer → Type 0
 Turns rows [] = Unit
 Turns rows (b ∷ bs) = ((b .room < length rows) × Fresh (getD rows (b .room) 0) (b .list)) × Turns (laidOne rows b) bs
 
 -- ---- told of what is accepted
 
 record All (names : List Word) (told : ℕ) (rows : List ℕ) (ls : List Line) (u : List ℕ) : Type 0 where
-  seers : List Seer
-  blocks : Blocks names seers ls
-  new : Fresh told (rooms seers)
-  turns : Turns rows seers
-  are : laid rows seers ≡ u
+  observers : List Observer
+  blocks : Blocks names observers ls
+  new : Fresh told (rooms observers)
+  turns : Turns rows observers
+  are : laid rows observers ≡ u
 
 -- one observer more
-all-more : (names : List Word) (told : ℕ) (rows : List ℕ) (ls : List Line) (u : List ℕ) → length names ≤ length rows → (q : Told names told rows ls u) → All names (withMark told (q .seer .room)) (laidOne rows (q .seer)) (q .behind) u → All names told rows ls u
+all-more : (names : List Word) (told : ℕ) (rows : List ℕ) (ls : List Line) (u : List ℕ) → length names ≤ length rows → (q : Told names told rows ls u) → All names (withMark told (q .observer .room)) (laidOne rows (q .observer)) (q .behind) u → All names told rows ls u
 unfolding laid
 all-more names told rows ls u w q r = record {
-  seers = q .seer ∷ r .seers;
+  observers = q .observer ∷ r .observers;
   blocks = record { first = q .own; rest = q .behind; cut = q .cut; here = q .block; behind = r .blocks };
   new = (q .new, r .new);
   turns = ((omega (arith, q .block .observer .inside), q .fresh), r .turns);
@@ -69,9 +69,9 @@ all-more names told rows ls u w q r = record {
 }
 
 -- no line, or an observer's and what stands behind its list
-all-case : (names : List Word) (o told : ℕ) (rows : List ℕ) (ls : List Line) (u : List ℕ) → length names ≤ length rows → Each Full ls → Accepts names (look o 0 told rows) ls u → ((q : Told names told rows ls u) → All names (withMark told (q .seer .room)) (laidOne rows (q .seer)) (q .behind) u) → All names told rows ls u
+all-case : (names : List Word) (o told : ℕ) (rows : List ℕ) (ls : List Line) (u : List ℕ) → length names ≤ length rows → Each Full ls → Accepts names (look o 0 told rows) ls u → ((q : Told names told rows ls u) → All names (withMark told (q .observer .room)) (laidOne rows (q .observer)) (q .behind) u) → All names told rows ls u
 unfolding laid
-all-case names o told rows [] u w f h rest = record { seers = []; blocks = refl; new = tt; turns = tt; are = end-accepts names (look o 0 told rows) u h .1 }
+all-case names o told rows [] u w f h rest = record { observers = []; blocks = refl; new = tt; turns = tt; are = end-accepts names (look o 0 told rows) u h .1 }
 all-case names o told rows (l ∷ ls) u w (f, fs) h rest =
     let q = accepts-block names o told rows l ls u w f fs h in
     all-more names told rows (l ∷ ls) u w q (rest q)
@@ -81,12 +81,12 @@ all-told zero names o told rows ls u s w f h = all-case names o told rows ls u w
 all-told (suc k) names o told rows ls u s w f h =
     all-case names o told rows ls u w f h
     (λ (q : Told names told rows ls u).
-    let b = q .seer in
+    let b = q .observer in
     all-told k names (b .room) (withMark told (b .room)) (laidOne rows b) (q .behind) u (omega (arith, q .shorter)) (rw (length-set rows (b .room) (marksOf (getD rows (b .room) 0) (b .list))) w) (q .full) (q .goes-on))
 
 -- ---- read where it is told
 
-all-read : (names : List Word) → Apart names → (bs : List Seer) (o told : ℕ) (rows : List ℕ) (ls : List Line) → length names ≤ length rows → Blocks names bs ls → Fresh told (rooms bs) → Turns rows bs → Accepts names (look o 0 told rows) ls (laid rows bs)
+all-read : (names : List Word) → Apart names → (bs : List Observer) (o told : ℕ) (rows : List ℕ) (ls : List Line) → length names ≤ length rows → Blocks names bs ls → Fresh told (rooms bs) → Turns rows bs → Accepts names (look o 0 told rows) ls (laid rows bs)
 unfolding laid
 all-read names a [] o told rows ls w e n t = rw e (accepts-end names o told rows)
 all-read names a (b ∷ bs) o told rows ls w c (n, ns) ((i, t), ts) =
@@ -95,7 +95,7 @@ all-read names a (b ∷ bs) o told rows ls w c (n, ns) ((i, t), ts) =
     (all-read names a bs (b .room) (withMark told (b .room)) (laidOne rows b) (c .rest) (rw (length-set rows (b .room) (marksOf (getD rows (b .room) 0) (b .list))) w) (c .behind) ns ts))
 
 -- where each observer stands once and its row is empty, each list has its turn
-turns-by : (names : List Word) (bs : List Seer) (rows : List ℕ) (ls : List Line) → length names ≤ length rows → Blocks names bs ls → Once (rooms bs) → ((j k : ℕ) → In j (rooms bs) → sees (getD rows j 0) k ≡ false) → Turns rows bs
+turns-by : (names : List Word) (bs : List Observer) (rows : List ℕ) (ls : List Line) → length names ≤ length rows → Blocks names bs ls → Once (rooms bs) → ((j k : ℕ) → In j (rooms bs) → sees (getD rows j 0) k ≡ false) → Turns rows bs
 turns-by names [] rows ls w c o e = tt
 turns-by names (b ∷ bs) rows ls w c (o, os) e =
     ((omega (arith, c .here .observer .inside), once-fresh (b .list) _ (c .here .once) (λ k i. e (b .room) k (inl refl))), turns-by names bs (laidOne rows b) (c .rest) (rw (length-set rows (b .room) (marksOf (getD rows (b .room) 0) (b .list))) w) (c .behind) os still)
@@ -105,7 +105,7 @@ turns-by names (b ∷ bs) rows ls w c (o, os) e =
 
 -- ---- the marks
 
-one-marks : (rows : List ℕ) (b : Seer) (j k : ℕ) → b .room < length rows → Fresh (getD rows (b .room) 0) (b .list) → sees (getD (laidOne rows b) j 0) k ≡ true ↔ ((sees (getD rows j 0) k ≡ true) ⊎ ((j ≡ b .room) × In k (b .list)))
+one-marks : (rows : List ℕ) (b : Observer) (j k : ℕ) → b .room < length rows → Fresh (getD rows (b .room) 0) (b .list) → sees (getD (laidOne rows b) j 0) k ≡ true ↔ ((sees (getD rows j 0) k ≡ true) ⊎ ((j ≡ b .room) × In k (b .list)))
 one-marks rows b j k i f = decided (ℕ-discrete j (b .room)) here there
   where
     here : j ≡ b .room → sees (getD (laidOne rows b) j 0) k ≡ true ↔ ((sees (getD rows j 0) k ≡ true) ⊎ ((j ≡ b .room) × In k (b .list)))
@@ -126,7 +126,7 @@ one-marks rows b j k i f = decided (ℕ-discrete j (b .room)) here there
         only (inl e) = e
         only (inr (q, e)) = absurd (z q)
 
-laid-marks : (bs : List Seer) (rows : List ℕ) (j k : ℕ) → Turns rows bs → sees (getD (laid rows bs) j 0) k ≡ true ↔ ((sees (getD rows j 0) k ≡ true) ⊎ Sees bs j k)
+laid-marks : (bs : List Observer) (rows : List ℕ) (j k : ℕ) → Turns rows bs → sees (getD (laid rows bs) j 0) k ≡ true ↔ ((sees (getD rows j 0) k ≡ true) ⊎ Sees bs j k)
 unfolding laid
 laid-marks [] rows j k t = (λ e. inl e, only)
   where
@@ -152,7 +152,7 @@ laid-marks (b ∷ bs) rows j k ((i, f), ts) = (λ e. to (laid-marks bs (laidOne 
 nothing-seen : (j k : ℕ) → sees (getD noRows j 0) k ≡ false
 nothing-seen j k = rw (no-row j) (sees-past 0 k (pow-pos k))
 
-marked-by : (bs : List Seer) → Turns noRows bs → Marked bs (laid noRows bs)
+marked-by : (bs : List Observer) → Turns noRows bs → Marked bs (laid noRows bs)
 marked-by bs t = record { mark = λ j k. (λ e. to j k (laid-marks bs noRows j k t .0 e), λ e. laid-marks bs noRows j k t .1 (inr e)) }
   where
     to : (j k : ℕ) → (sees (getD noRows j 0) k ≡ true) ⊎ Sees bs j k → Sees bs j k
@@ -162,7 +162,7 @@ marked-by bs t = record { mark = λ j k. (λ e. to j k (laid-marks bs noRows j k
 -- ---- a text
 
 -- accepted visibility is spelled as the paper tells, of a layout and of bytes that are accepted, and marks what its lists tell ..
-pub sight-spelled : (layout s : List ℕ) → sightVerdict layout s .number ≡ 0 → (bs : List Seer) × (Spelled (roomNames layout) bs (wordLines s) × Marked bs (rowsOf layout s))
+pub sight-spelled : (layout s : List ℕ) → sightVerdict layout s .number ≡ 0 → (bs : List Observer) × (Spelled (roomNames layout) bs (wordLines s) × Marked bs (rowsOf layout s))
 unfolding grammar
 sight-spelled layout s z =
     let names = roomNames layout in
@@ -171,10 +171,10 @@ sight-spelled layout s z =
     let e : grammar names s ≡ with (rowsOf layout s) = rw (rows-accepted layout s z, ← v) in
     let h : Accepts names start (wordLines s) (rowsOf layout s) = λ n. read-any names (wordLines s) 0 n start (rowsOf layout s) e in
     let q = all-told (length (spoken (wordLines s))) names 0 0 noRows (spoken (wordLines s)) (rowsOf layout s) (omega arith) (few-names layout) (spoken-full (wordLines s)) (spoken-accepts names (wordLines s) start (rowsOf layout s) h) in
-    (q .seers, (record { blocks = q .blocks; once = fresh-once (rooms (q .seers)) 0 (q .new) }, rw (q .are) at (marked-by (q .seers) (q .turns))))
+    (q .observers, (record { blocks = q .blocks; once = fresh-once (rooms (q .observers)) 0 (q .new) }, rw (q .are) at (marked-by (q .observers) (q .turns))))
 
 -- .. and a text of right bytes that is spelled so, of a layout that is accepted, is accepted and marks what its lists tell
-pub spelled-sight : (layout s : List ℕ) (bs : List Seer) → layoutVerdict layout .number ≡ 0 → rules31to32 s .number ≡ 0 → Spelled (roomNames layout) bs (wordLines s) → (sightVerdict layout s ≡ accepted) × Marked bs (rowsOf layout s)
+pub spelled-sight : (layout s : List ℕ) (bs : List Observer) → layoutVerdict layout .number ≡ 0 → rules31to32 s .number ≡ 0 → Spelled (roomNames layout) bs (wordLines s) → (sightVerdict layout s ≡ accepted) × Marked bs (rowsOf layout s)
 unfolding grammar
 spelled-sight layout s bs l b p =
     let names = roomNames layout in

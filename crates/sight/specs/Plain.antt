@@ -38,12 +38,12 @@ NameLines names [] (l ∷ ls) = ⊥
 NameLines names (j ∷ js) [] = ⊥
 
 -- an observer, and the rooms in its list
-pub record Seer : Type 0 where
+pub record Observer : Type 0 where
   pub room : ℕ
   pub list : List ℕ
 
 -- an observer's lines: name and count, then that many lines of one name; a name in one list stands once
-pub record Block (names : List Word) (b : Seer) (ls : List Line) : Type 0 where
+pub record Block (names : List Word) (b : Observer) (ls : List Line) : Type 0 where
   pub head : Line
   pub list : List Line
   pub spelled : ls ≡ head ∷ list
@@ -62,22 +62,22 @@ pub record Then (P Q : List Line → Type 0) (ls : List Line) : Type 0 where
   pub here : P first
   pub behind : Q rest
 
-abbrev pub Blocks : List Word → List Seer → List Line → Type 0
+abbrev pub Blocks : List Word → List Observer → List Line → Type 0
 Blocks names [] ls = ls ≡ []
 Blocks names (b ∷ bs) ls = Then (Block names b) (Blocks names bs) ls
 
 -- blank lines are skipped, and an observer stands once
-pub record Spelled (names : List Word) (bs : List Seer) (ls : List Line) : Type 0 where
+pub record Spelled (names : List Word) (bs : List Observer) (ls : List Line) : Type 0 where
   pub blocks : Blocks names bs (spoken ls)
-  pub once : Once (map (λ (b : Seer). b .room) bs)
+  pub once : Once (map (λ (b : Observer). b .room) bs)
 
 -- ---- marks
 
 -- observer j has k in its list
-abbrev pub Sees : List Seer → ℕ → ℕ → Type 0
+abbrev pub Sees : List Observer → ℕ → ℕ → Type 0
 Sees [] j k = ⊥
 Sees (b ∷ bs) j k = ((j ≡ b .room) × In k (b .list)) ⊎ Sees bs j k
 
 -- a room's row marks the rooms in its list, and no others
-pub record Marked (bs : List Seer) (rows : List ℕ) : Type 0 where
+pub record Marked (bs : List Observer) (rows : List ℕ) : Type 0 where
   pub mark : (j k : ℕ) → sees (getD rows j 0) k ≡ true ↔ Sees bs j k

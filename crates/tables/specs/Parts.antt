@@ -8,6 +8,10 @@ use Rattle.tables.specs.Tables.{tableAt, width}
 use Rattle.tables.specs.Header.{floorTables}
 use Rattle.tables.specs.declared.Table.{Table}
 
+-- the word for none, in whichever table: -1 as 32 bits
+abbrev pub none32 : ℕ
+none32 = 0xFFFF_FFFF
+
 pub record Parts : Type 0 where
   pub floats : List ℕ  -- the header's fifteen, four use positions and the position, as words
   pub vertices : ℕ

@@ -6,9 +6,10 @@ use mathlib.Core.Bool.{true, false, _&&_}
 use mathlib.Core.List.{List, [], _∷_}
 use lib.ListN.{getD}
 use lib.Dec.{eqb, ltb}
+use Rattle.tables.specs.Parts.{none32}
 use Rattle.verdict.specs.Lowest.{lowest, anyUnder, allUnder}
 use Rattle.verdict.specs.Lists.{times, once}
-use Rattle.nodes.specs.Nodes.{Nodes, none32}
+use Rattle.nodes.specs.Nodes.{Nodes}
 use Rattle.tree.specs.Tree.{ends, deep, leafFaces, oneTree}
 
 -- nodes by lists of faces and of children

@@ -4,8 +4,7 @@ use mathlib.Core.Path.{ap, _∙_}
 use Prim.Native.Nat.{ℕ}
 use lib.Dec.{eqb}
 use denote.Ref.{now}
-use Rattle.border.specs.Halves.{none32}
-use Rattle.tables.specs.Parts.{partsOf}
+use Rattle.tables.specs.Parts.{none32, partsOf}
 use Rattle.border.proofs.Halves.{few-walkable, border-read, border-out}
 use Rattle.border.proofs.is_border.Statement.{statement}
 use Rattle.border.proofs.is_border.Tie as tie

@@ -5,8 +5,8 @@ use mathlib.Core.Path.{_≡_, sym, ap, _∙_}
 use denote.Ref.{now}
 use borrow.Author.Tests.{lt-ltb, le-ltb, eq-eqb, ne-eqb, not-true, not-false}
 use Rattle.verdict.proofs.Bools.{and-no}
-use Rattle.tables.specs.Parts.{partsOf}
-use Rattle.nodes.specs.Nodes.{none32, faceOf, leftOf, isPlane, isInner}
+use Rattle.tables.specs.Parts.{none32, partsOf}
+use Rattle.nodes.specs.Nodes.{faceOf, leftOf, isPlane, isInner}
 use Rattle.nodes.proofs.is_inner.Statement.{statement}
 use Rattle.nodes.proofs.is_inner.Tie as tie
 

@@ -3,7 +3,8 @@ use borrow.Author.Needs.{needs}
 use Prim.Native.Nat.{ℕ}
 use mathlib.Core.Path.{ap}
 use lib.Dec.{eqb}
-use Rattle.nodes.specs.Nodes.{none32, nodesOf}
+use Rattle.tables.specs.Parts.{none32}
+use Rattle.nodes.specs.Nodes.{nodesOf}
 use Rattle.nodes.proofs.is_inner_node.Statement.{statement}
 use Rattle.nodes.proofs.is_inner_node.Tie as tie
 

@@ -5,8 +5,8 @@ use mathlib.Core.Path.{_≡_}
 use denote.Ref.{now}
 use borrow.Author.Tests.{lt-ltb, le-ltb, eq-eqb, ne-eqb}
 use Rattle.verdict.proofs.Bools.{and-no}
-use Rattle.tables.specs.Parts.{partsOf}
-use Rattle.nodes.specs.Nodes.{none32, faceOf, planeOf, leftOf, isLeaf}
+use Rattle.tables.specs.Parts.{none32, partsOf}
+use Rattle.nodes.specs.Nodes.{faceOf, planeOf, leftOf, isLeaf}
 use Rattle.nodes.proofs.is_leaf.Statement.{statement}
 use Rattle.nodes.proofs.is_leaf.Tie as tie
 
