@@ -138,12 +138,12 @@ constexpr std::string_view words(Refusal refusal) noexcept {
         case Refusal::perimeter: return "The border edges do not close into loops.";
         case Refusal::work_memory: return "The bench lent too little work memory.";
         case Refusal::no_such_place: return "There is no such place here.";
-        case Refusal::paint: return "That paint would change where visitors can walk.";
+        case Refusal::paint: return "That paint is none the house knows, or would change where visitors can walk.";
         case Refusal::link: return "A link leads to a room from 0 to 63, or nowhere (-1).";
-        case Refusal::nudge: return "That nudge is too large or leaves the grid.";
+        case Refusal::nudge: return "That nudge is too large, or begins or ends off the grid.";
         case Refusal::journal_full: return "The journal is full.";
         case Refusal::no_step: return "There is nothing more to undo or redo.";
-        case Refusal::record: return "The journal and the floor disagree, so nothing was written over.";
+        case Refusal::record: return "The journal and the floor disagree at this step.";
         case Refusal::session: return "The session's numbers do not fit its journal.";
         case Refusal::point_beyond: return "That point lies beyond the grid.";
         case Refusal::vertex_off_grid: return "A corner of the floor is not on the grid.";
@@ -156,7 +156,7 @@ constexpr std::string_view words(Refusal refusal) noexcept {
         case Refusal::name_twice: return "That name is already taken.";
         case Refusal::text_ends: return "The text ends too early.";
         case Refusal::unknown_room: return "No room of the layout has that name.";
-        case Refusal::output_short: return "There is too little space for what would be written.";
+        case Refusal::output_short: return "There is too little space for what would be written, or its text would be too long.";
         case Refusal::no_caption: return "Neither text has a name for that room.";
         case Refusal::link_nowhere: return "An edge leads to a room that the layout does not have.";
     }
@@ -165,7 +165,7 @@ constexpr std::string_view words(Refusal refusal) noexcept {
 
 // What the place beside a refusal counts, or nothing where the place says nothing. An edit refused by 21 to 28 has
 // the place that it was asked for, and undo, redo and put-back have their cursor: both are simply "place". Lines count
-// from 1; line 0 is the name that was typed for a room.
+// from 1; line 0 is the name that was typed for a room. A text that ends early has the number of its lines, which may be 0.
 constexpr std::string_view place_words(Refusal refusal) noexcept {
     switch (refusal) {
         case Refusal::world_coords:
@@ -200,8 +200,8 @@ constexpr std::string_view place_words(Refusal refusal) noexcept {
         case Refusal::text_number:
         case Refusal::text_count:
         case Refusal::name_twice:
-        case Refusal::text_ends:
         case Refusal::unknown_room: return "line";
+        case Refusal::text_ends: return "lines";
         default: return {};
     }
 }

@@ -83,7 +83,7 @@ pub extern "C" fn wp_link(
     journal::link(floor, journal, f, k, entry, transition)
 }
 
-// A use position or the position moved by so many sixty-fourths.
+// A float of the four use positions moved by so many sixty-fourths.
 #[no_mangle]
 pub extern "C" fn wp_nudge(
     floor: &mut [u8],

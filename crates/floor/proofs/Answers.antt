@@ -9,6 +9,7 @@ use borrow.Author.Tests.{lt-ltb, le-ltb, ne-eqb}
 use Rattle.verdict.specs.Verdict.{accepted, refused, rule, _then_}
 use Rattle.verdict.specs.Memory.{workSize, clearedTo}
 use Rattle.verdict.specs.declared.Answer.{Answer}
+use Rattle.verdict.specs.declared.Form.{Form}
 use Rattle.verdict.proofs.Bools.{decided}
 use Rattle.verdict.proofs.Verdict.{then-next, then-stop}
 use Rattle.tables.specs.Parts.{Parts, partsOf}
@@ -16,6 +17,7 @@ use Rattle.mesh.proofs.Plain.{walkable-faces}
 use Rattle.floor.specs.declared.Floor.{Floor}
 use Rattle.floor.specs.Groups.{rules1to19}
 use Rattle.floor.specs.Reader.{rule20, readerVerdict, walkableFaces, answerOf, readerAnswer, readerMemory, readerRules}
+use Rattle.floor.specs.Rewrite.{rewriteAnswer, rewriteMemory}
 use Rattle.floor.specs.Accepted.{Accepted}
 use Rattle.floor.proofs.Order.{by-groups, reader-first}
 
@@ -64,3 +66,12 @@ pub record Admits (b w : List ℕ) (r : Floor) (m : List ℕ) : Type 0 where
 
 pub one-answer : (b w : List ℕ) (r q : Floor) (m n : List ℕ) → Admits b w r m → Admits b w q n → (r ≡ q) × (m ≡ n)
 one-answer b w r q m n x y = (x .answer ∙ sym (y .answer), x .memory ∙ sym (y .memory))
+
+-- the same of the rewriter, and of its output
+pub record Rewrites (b w o : List ℕ) (f : Form) (m n : List ℕ) : Type 0 where
+  pub answer : f ≡ rewriteAnswer b (length w) (length o)
+  pub memory : m ≡ readerMemory w
+  pub output : n ≡ rewriteMemory b (length w) o
+
+pub one-form : (b w o : List ℕ) (f g : Form) (m k n l : List ℕ) → Rewrites b w o f m n → Rewrites b w o g k l → (f ≡ g) × ((m ≡ k) × (n ≡ l))
+one-form b w o f g m k n l x y = (x .answer ∙ sym (y .answer), (x .memory ∙ sym (y .memory), x .output ∙ sym (y .output)))

@@ -1,4 +1,4 @@
--- A layout as the paper tells it, with no reader in it: which lines a text has. Definitions only.
+-- A layout as the paper tells it, with no reader of lines in it: which lines a text has. Definitions only.
 use mathlib.Core.Path.{_≡_}
 use mathlib.Core.Logic.{_⊎_}
 use mathlib.Core.Bool.{true, false}

@@ -1,4 +1,5 @@
--- What the link check lets through, in plain words: no search and no test of ours in them. proofs/Meaning.antt shows both ways.
+-- What the link check lets through, in plain words: a sound floor, a layout that is accepted, and no transition past its rooms.
+-- proofs/Meaning.antt shows both ways.
 use Prim.Native.Nat.{ℕ, _<_, _≤_}
 use mathlib.Core.Path.{_≡_}
 use mathlib.Core.Logic.{_⊎_}

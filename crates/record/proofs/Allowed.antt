@@ -60,7 +60,7 @@ permitted-by old new a b = rw (le-leb old 22 a, le-leb new 22 b)
 pub link-word : (t : ℤ) → mayLink t ≡ true → linkable (transitionWord t) ≡ true
 unfolding mayLink linkable transitionWord
 link-word (pos n) e = rw e
-link-word (negsuc n) e = rw (eqb-true n 0 e)
+link-word (negsuc n) e = refl
 
 pub linkable-small : (w : ℕ) → linkable w ≡ true → w < 4294967296
 unfolding linkable
@@ -77,10 +77,10 @@ unfolding mayLink
 link-high (pos n) e = decided (decLt n 64) (λ l. rw (lt-ltb n 64 l, le-leb n 63 (omega arith))) (λ l. rw (le-ltb n 64 (omega arith), lt-leb n 63 (omega arith)))
 link-high (negsuc n) e = sym (eq-eqb n 0 (omega (arith, ltb-false 0 n e)))
 
-pub word-low : (t : ℤ) → ltZ t (pos 0) ≡ true → mayLink t ≡ true → 4294967295 ≡ transitionWord t
-unfolding mayLink transitionWord
-word-low (pos n) e h = absurd (omega (arith, ltb-true n 0 e))
-word-low (negsuc n) e h = rw (eqb-true n 0 h)
+pub word-low : (t : ℤ) → ltZ t (pos 0) ≡ true → 4294967295 ≡ transitionWord t
+unfolding transitionWord
+word-low (pos n) e = absurd (omega (arith, ltb-true n 0 e))
+word-low (negsuc n) e = refl
 
 pub word-high : (t : ℤ) → ltZ t (pos 0) ≡ false → (T (nonNeg t)) × (natAbs t ≡ transitionWord t)
 unfolding transitionWord

@@ -45,7 +45,7 @@ pub fn may_link(t: i32) -> bool
 
 // The bits of a transition that 23 lets through.
 pub fn transition_word(t: i32) -> u32
-    ensures { λ r. ⌜ (mayLink t ≡ true → r ≡ transitionWord t) ⌝ }
+    ensures { λ r. ⌜ r ≡ transitionWord t ⌝ }
 {
     if t < 0 {
         return 4294967295;

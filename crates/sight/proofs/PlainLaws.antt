@@ -161,8 +161,8 @@ marked-by bs t = record { mark = λ j k. (λ e. to j k (laid-marks bs noRows j k
 
 -- ---- a text
 
--- accepted visibility is spelled as the paper tells, of a layout and of bytes that are accepted, and marks what its lists tell ..
-pub sight-spelled : (layout s : List ℕ) → sightVerdict layout s .number ≡ 0 → (bs : List Observer) × (Spelled (roomNames layout) bs (wordLines s) × Marked bs (rowsOf layout s))
+-- accepted visibility has an accepted layout and right bytes, is spelled as the paper tells, and marks what its lists tell ..
+pub sight-spelled : (layout s : List ℕ) → sightVerdict layout s .number ≡ 0 → ((layoutVerdict layout .number ≡ 0) × (rules31to32 s .number ≡ 0)) × ((bs : List Observer) × (Spelled (roomNames layout) bs (wordLines s) × Marked bs (rowsOf layout s)))
 unfolding grammar
 sight-spelled layout s z =
     let names = roomNames layout in
@@ -171,7 +171,7 @@ sight-spelled layout s z =
     let e : grammar names s ≡ with (rowsOf layout s) = rw (rows-accepted layout s z, ← v) in
     let h : Accepts names start (wordLines s) (rowsOf layout s) = λ n. read-any names (wordLines s) 0 n start (rowsOf layout s) e in
     let q = all-told (length (spoken (wordLines s))) names 0 0 noRows (spoken (wordLines s)) (rowsOf layout s) (omega arith) (few-names layout) (spoken-full (wordLines s)) (spoken-accepts names (wordLines s) start (rowsOf layout s) h) in
-    (q .observers, (record { blocks = q .blocks; once = fresh-once (rooms (q .observers)) 0 (q .new) }, rw (q .are) at (marked-by (q .observers) (q .turns))))
+    ((l, b), (q .observers, (record { blocks = q .blocks; once = fresh-once (rooms (q .observers)) 0 (q .new) }, rw (q .are) at (marked-by (q .observers) (q .turns)))))
 
 -- .. and a text of right bytes that is spelled so, of a layout that is accepted, is accepted and marks what its lists tell
 pub spelled-sight : (layout s : List ℕ) (bs : List Observer) → layoutVerdict layout .number ≡ 0 → rules31to32 s .number ≡ 0 → Spelled (roomNames layout) bs (wordLines s) → (sightVerdict layout s ≡ accepted) × Marked bs (rowsOf layout s)

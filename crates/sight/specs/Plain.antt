@@ -1,4 +1,4 @@
--- Visibility as the paper tells it, with no reader in it: which lines a text has, and which marks they set. Definitions only.
+-- Visibility as the paper tells it, with no reader of lines in it: which lines a text has, and which marks they set. Definitions only.
 use mathlib.Core.Path.{_≡_}
 use mathlib.Core.Logic.{_⊎_, _↔_}
 use mathlib.Core.Bool.{true}

@@ -1,14 +1,14 @@
-// The floor's header and its nine tables: rules 1 to 6, and the words of entries, read and written.
+// The floor's header and its nine tables: rules 1 to 6, and the words of entries.
 use verdict::Answer;
 ghost use mathlib.Core.Path.{_≡_};
 ghost use Prim.Native.Nat.{_+_, _*_, _<_, _≤_, min, max};
 ghost use lib.ListN.{length, getD};
 ghost use Rattle.verdict.specs.Lowest.{lowest};
 ghost use Rattle.verdict.specs.Verdict.{_then_};
-ghost use Rattle.wire.specs.Bytes.{u32At, putU32};
+ghost use Rattle.wire.specs.Bytes.{u32At};
 ghost use Rattle.tables.specs.Tables.{tableAt, width, spanOf, outside, shares, InHeader, entryAt, sharesEarlier, outsideAt};
 ghost use Rattle.tables.specs.Header.{floorTables, magic, wrongLength, startsWrong, rule4, rules2to6, headerVerdict, RightHeader};
-ghost use Rattle.tables.specs.Parts.{partsOf, countOf, wordIndex, wordOf, wordPlace, withWord, withFloat, corner, material};
+ghost use Rattle.tables.specs.Parts.{partsOf, countOf, wordIndex, wordOf, wordPlace, corner, material};
 
 // A table by the positions of its count and its offset in the header, and the size of an entry.
 pub struct Table {
@@ -325,25 +325,4 @@ pub fn material_of(bytes: &[u8], f: usize) -> u32
     ensures { λ r. ⌜ r ≡ material (partsOf (now (bytes .entry))) f ⌝ }
 {
     word_of(bytes, 2, f, 0)
-}
-
-// The same word set: one word of the parts, and nothing else of the file.
-pub fn put_entry(bytes: &mut [u8], k: usize, i: usize, e: usize, w: u32)
-    requires { ⌜ RightHeader (now bytes) × (k < 9) × (i < countOf (partsOf (now bytes)) k) × (e < width (tableAt floorTables k)) ⌝ }
-    ensures bytes { λ _. ⌜ now (bytes .exit) ≡ putU32 (now (bytes .entry)) (wordPlace (now (bytes .entry)) k (wordIndex k i e)) w ⌝ }
-    ensures parts { λ _. ⌜ partsOf (now (bytes .exit)) ≡ withWord (partsOf (now (bytes .entry))) k (wordIndex k i e) w ⌝ }
-    ensures header { λ _. ⌜ headerVerdict (now (bytes .exit)) ≡ headerVerdict (now (bytes .entry)) ⌝ }
-{
-    let at = place_of(bytes, k, i, e);
-    wire::put_u32(bytes, at, w);
-}
-
-// The bits of the header's float i set.
-pub fn set_float(bytes: &mut [u8], i: usize, w: u32)
-    requires { ⌜ RightHeader (now bytes) × (136 ≤ length (now bytes)) × (i < 15) ⌝ }
-    ensures bytes { λ _. ⌜ now (bytes .exit) ≡ putU32 (now (bytes .entry)) (12 + 4 * i) w ⌝ }
-    ensures parts { λ _. ⌜ partsOf (now (bytes .exit)) ≡ withFloat (partsOf (now (bytes .entry))) i w ⌝ }
-    ensures header { λ _. ⌜ headerVerdict (now (bytes .exit)) ≡ headerVerdict (now (bytes .entry)) ⌝ }
-{
-    wire::put_u32(bytes, 12 + 4 * i, w);
 }

@@ -13,16 +13,18 @@ use Rattle.verdict.specs.Lowest.{lowest, anyUnder, allUnder}
 use Rattle.verdict.specs.Lists.{times, tally, once}
 use Rattle.verdict.specs.Verdict.{rule, ruleOfEach, _then_, refused, accepted}
 use Rattle.verdict.specs.Memory.{workSize}
+use Rattle.verdict.specs.Output.{over, formAnswer, formMemory}
 use Rattle.verdict.proofs.Bools.{T-true, true-T, and-true}
 use Rattle.verdict.proofs.Verdict.{then-next, then-stop}
 use Rattle.wire.specs.Bytes.{u32At, u32Bytes, put}
-use Rattle.wire.specs.Words.{wordsAt, bytesOf}
+use Rattle.wire.specs.Words.{wordsAt, bytesOf, joined}
 use Rattle.grid.specs.Grid.{finite, onGrid, size64, scaled, gridFloat, mayNudge, nudgeBits}
 use Rattle.grid.specs.Box.{between, noneOver, holdsPoint, holdsBox, holdsXY, boxOfBits}
 use Rattle.grid.specs.Triangle.{inTriangle, sides, allLeft, allRight, cross}
 use Rattle.tables.specs.Tables.{rule5, rule6, outsideAt, outside, spanOf, shares, sharesEarlier}
 use Rattle.tables.specs.Header.{wrongLength, headerVerdict, rules2to6, startsWrong, differs, limit, rule1, rule2, rule3, rule4}
 use Rattle.tables.specs.Parts.{partsOf, tableWords, wordOf, wordPlace}
+use Rattle.tables.specs.Fixed.{startOf, formOf}
 use Rattle.tables.proofs.Right.{wrong-long}
 use Rattle.mesh.specs.Floats.{wild, wildHead, wildIn, rule7In, rule7}
 use Rattle.mesh.specs.Faces.{wrongCorner, wrongCorners, walkable, strange, misplaced, rule8, rule9, rule10}
@@ -34,6 +36,7 @@ use Rattle.border.specs.Halves.{from, to, runs, repeats, partner, border, pairi
 use Rattle.border.specs.Loops.{standsIn, wrongEdge, missing, rule17, wrongTransition, rule18, loopStart, after, openAt, openRun, wrongLoop, rule19}
 use Rattle.floor.specs.Groups.{rules1to19}
 use Rattle.floor.specs.Reader.{rule20, readerVerdict, walkableFaces, answerOf, readerAnswer}
+use Rattle.floor.specs.Rewrite.{fixedForm, rewriteVerdict, rewriteAnswer, rewriteMemory}
 use Rattle.floor.proofs.Order.{by-groups}
 use Rattle.record.specs.Record.{recordBytes}
 use Rattle.record.specs.Allowed.{permitted}
@@ -43,7 +46,7 @@ use Rattle.journal.specs.Step.{badSession, rule28, commonVerdict, unless, full,
 use Rattle.journal.specs.Calls.{step, run}
 use Rattle.query.specs.Rules.{rule29, rule30, offGrid, queryVerdict}
 use Rattle.query.specs.Points.{cornerAt, faceHolds, boxHolds, lowestFace, visitedNodes, replyOf, pointOf, pointAnswer}
-use Rattle.worked.specs.Worked.{Deed, read, pair, ask, call, nudge, told, gives, Case, Right, triangle, square, worked}
+use Rattle.worked.specs.Worked.{Deed, read, rewrite, pair, ask, call, nudge, told, gives, Case, Right, triangle, square, worked}
 
 -- ---- a file that is too long, without its bytes
 
@@ -62,6 +65,7 @@ long-answer b l = rw (long-verdict b l)
 quick : Deed → List ℕ
 quick (read start zeros) =
     elim (ltb 1048576 (length start + zeros)) [ true ↦ 1 ∷ 0 ∷ 0 ∷ 0 ∷ 0 ∷ 0 ∷ [] | false ↦ gives (read start zeros) ]
+quick (rewrite file room) = gives (rewrite file room)
 quick (pair file hs) = gives (pair file hs)
 quick (ask file x y) = gives (ask file x y)
 quick (call file room cs c) = gives (call file room cs c)
@@ -78,6 +82,7 @@ quick-right (read start zeros) = by (ltb 1048576 (length start + zeros)) refl
         → told (readerAnswer b workSize) ≡ elim t [ true ↦ 1 ∷ 0 ∷ 0 ∷ 0 ∷ 0 ∷ 0 ∷ [] | false ↦ told (readerAnswer b workSize) ]
     by true e = long-answer b (simp (length-append, length-replicate) (ltb-true _ _ e))
     by false e = refl
+quick-right (rewrite file room) = refl
 quick-right (pair file hs) = refl
 quick-right (ask file x y) = refl
 quick-right (call file room cs c) = refl
@@ -116,6 +121,7 @@ right-of (c ∷ cs) t =
 computed : T (tested worked)
 unfolding worked triangle square tested quick gives same
     bytesOf u32Bytes u32At wordsAt rule ruleOfEach _then_ lowest anyUnder allUnder times tally once
+    rewriteAnswer rewriteMemory rewriteVerdict fixedForm formAnswer formMemory over formOf startOf joined
     readerAnswer answerOf readerVerdict walkableFaces rule20 rule1 rule2 rule3 rule4 limit rule5 rule6 wrongLength startsWrong differs outsideAt outside spanOf shares sharesEarlier
     partsOf tableWords wordOf wordPlace rule7 rule7In wild wildHead wildIn finite ofBits rule8 wrongCorners wrongCorner rule9 strange rule10 misplaced walkable
     rule11 rule12 neither isLeaf isInner isPlane nodesOf rule13 oneTree deep ends leafFaces rule14 tooSmall holdsChildren holdsFace holdsCorner boxOf boxOfBits holdsPoint holdsBox between noneOver le lt eq

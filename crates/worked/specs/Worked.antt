@@ -6,12 +6,14 @@ use lib.ListN.{replicate}
 use lib.IntN.{ℤ, pos}
 use Rattle.verdict.specs.Lists.{bit}
 use Rattle.verdict.specs.Memory.{workSize}
+use Rattle.verdict.specs.declared.Form.{Form}
 use Rattle.wire.specs.Words.{bytesOf}
 use Rattle.grid.specs.Grid.{mayNudge, nudgeBits}
 use Rattle.tables.specs.Header.{magic}
 use Rattle.tables.specs.Parts.{partsOf}
 use Rattle.border.specs.Halves.{pairing}
 use Rattle.floor.specs.Reader.{readerAnswer}
+use Rattle.floor.specs.Rewrite.{rewriteAnswer, rewriteMemory}
 use Rattle.floor.specs.declared.Floor.{Floor}
 use Rattle.query.specs.Points.{pointAnswer}
 use Rattle.record.specs.Area.{areaFloor}
@@ -19,11 +21,12 @@ use Rattle.journal.specs.Step.{Outcome, lent}
 use Rattle.journal.specs.Calls.{Call, paint, step, run}
 use Rattle.query.specs.declared.Point.{Point}
 
--- what is done: a file of some bytes and then so many zeros is read; half-edges of a file are paired; a floor is asked for the
+-- what is done: a file of some bytes and then so many zeros is read; a floor is rewritten into so many zeros; half-edges of a file are paired; a floor is asked for the
 -- face under a point, x and y in sixty-fourths; over a floor and an empty journal of so many bytes calls are made and then one more; a
 -- float is nudged
 pub data Deed : Type 0 where
   read : List ℕ → ℕ → Deed
+  rewrite : List ℕ → ℕ → Deed
   pair : List ℕ → List ℕ → Deed
   ask : List ℕ → ℤ → ℤ → Deed
   call : List ℕ → ℕ → List Call → Call → Deed
@@ -33,6 +36,10 @@ pub data Deed : Type 0 where
 abbrev pub told : Floor → List ℕ
 told r = r .number ∷ r .place ∷ r .faces ∷ r .walkable ∷ r .edges ∷ r .perimeters ∷ []
 
+-- the rewriter's: number, place, length
+abbrev pub formed : Form → List ℕ
+formed f = f .number ∷ f .place ∷ f .length ∷ []
+
 -- the query's: number, place, 1 or 0, face, nodes visited
 abbrev pub pointed : Point → List ℕ
 pointed r = r .number ∷ r .place ∷ r .found ∷ r .face ∷ r .visited ∷ []
@@ -41,10 +48,11 @@ pointed r = r .number ∷ r .place ∷ r .found ∷ r .face ∷ r .visited ∷ [
 abbrev pub called : Outcome → List ℕ
 called o = o .answer .number ∷ o .answer .place ∷ o .answer .f ∷ o .answer .k ∷ o .journal
 
--- what a deed gives: the reader's answer; what the adjacency entries should be; the query's answer; the last call's answer and the
+-- what a deed gives: the reader's answer; the rewriter's answer and the output; what the adjacency entries should be; the query's answer; the last call's answer and the
 -- journal; 1 or 0 and the new bits
 unfoldable pub gives : Deed → List ℕ
 gives (read start zeros) = told (readerAnswer (start ++ replicate zeros 0) workSize)
+gives (rewrite file room) = formed (rewriteAnswer file workSize room) ++ rewriteMemory file workSize (replicate room 0)
 gives (pair file hs) = map (pairing (partsOf file)) hs
 gives (ask file x y) = pointed (pointAnswer file workSize x y)
 gives (call file room cs c) = called (step areaFloor c (run areaFloor cs (lent file (replicate room 0) 0 0)))
@@ -107,6 +115,7 @@ worked =
     case (read header 126) (1 ∷ 0 ∷ 0 ∷ 0 ∷ 0 ∷ 0 ∷ []) ∷  -- W2
     case (read header 1048568) (1 ∷ 0 ∷ 0 ∷ 0 ∷ 0 ∷ 0 ∷ []) ∷  -- W3
     case (read triangle 0) (0 ∷ 0 ∷ 1 ∷ 1 ∷ 3 ∷ 1 ∷ []) ∷  -- W4
+    case (rewrite triangle 288) (0 ∷ 0 ∷ 288 ∷ triangle) ∷
     case (pair (square 0 4 5 2) (0 ∷ 1 ∷ 2 ∷ 3 ∷ 4 ∷ 5 ∷ [])) (none ∷ 3 ∷ none ∷ 1 ∷ none ∷ none ∷ []) ∷  -- W5
     case (read (square 0 4 5 2) 0) (0 ∷ 0 ∷ 2 ∷ 2 ∷ 4 ∷ 1 ∷ []) ∷  -- W6
     case (read (square 0 5 4 2) 0) (19 ∷ 0 ∷ 0 ∷ 0 ∷ 0 ∷ 0 ∷ []) ∷  -- W7

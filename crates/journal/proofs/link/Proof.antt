@@ -34,7 +34,7 @@ returns-2 c =
     let e = toZ-ofZ w32 (a .transition) (s .fits .transition) in
     c .before .before .before .before .edit .ensures
     ∙ edit-as areaFloor (linkWish (a .entry) (a .transition)) _ _ _
-    (c .before .before .before .before .before .before .before .before .may-link .ensures ∙ ap mayLink e) (λ h. c .before .before .before .before .before .before .before .transition-word .ensures (ap mayLink e ∙ h) ∙ ap transitionWord e)
+    (c .before .before .before .before .before .before .before .before .may-link .ensures ∙ ap mayLink e) (λ h. c .before .before .before .before .before .before .before .transition-word .ensures ∙ ap transitionWord e)
 
 pub link-spec : {M : Type 1} → statement M
 link-spec = tie.close (tie.spec (search needs) (search needs) (search needs) returns (search needs) (search needs) edit-requires (search needs) (search needs) returns-2)

@@ -18,7 +18,7 @@ cast-result c =
     rw e (word-high t (rw e at (c .if1 .left)) .0, record { fits = lt-of-le-of-lt (natAbs-le t (c .before .fits .t .sfits)) (lit< tt) })
 
 returns-2 : tie.Need-returns-2
-returns-2 c h =
+returns-2 c =
     let t = c .before .args .t in
     let e = toZ-ofZ w32 t (c .before .fits .t) in
     rw e (word-high t (rw e at (c .if1 .left)) .1)
