@@ -14,6 +14,7 @@ use Rattle.text.specs.Name.{same}
 use Rattle.text.specs.Reading.{Word, Line, nth}
 use Rattle.text.proofs.NameLaws.{same-true}
 use Rattle.number.specs.Count.{value, isCount}
+use Rattle.number.proofs.DecimalLaws.{decimal-ok}
 use Rattle.layout.specs.Grammar.{Typed, State, sectionOf, follows, opens, withEntry, namesOf, known, placed, entryFault, wordsOf, countRight, openFault, fault, next, beginlayout, roomcount, trackcount, obstaclecount, doorhookcount, donelayout}
 use Rattle.layout.specs.Plain.{IsEntry}
 use Rattle.layout.proofs.EachLaws.{Each, Apart, names-more, apart-before}
@@ -55,7 +56,10 @@ entry-right : (st : State) (l : Line) → IsEntry l → (eqb (st .sect) 2 ≡ tr
 unfolding entryFault placed
 entry-right st l g new =
     let four = eq-eqb (length l) 4 (g .four) in
-    test (eqb (st .sect) 2) (λ (h : eqb (st .sect) 2 ≡ true). rw (four, g .name, g .x, g .y, g .z, h, new h)) (λ (h : eqb (st .sect) 2 ≡ false). rw (four, g .name, g .x, g .y, g .z, h))
+    let x = decimal-ok (nth l 1) (g .x) in
+    let y = decimal-ok (nth l 2) (g .y) in
+    let z = decimal-ok (nth l 3) (g .z) in
+    test (eqb (st .sect) 2) (λ (h : eqb (st .sect) 2 ≡ true). rw (four, g .name, x, y, z, h, new h)) (λ (h : eqb (st .sect) 2 ≡ false). rw (four, g .name, x, y, z, h))
 
 -- while entries are to come, a line is one
 module _ (k n : ℕ) (t : Typed) (w : Word) (ws : Line) where

@@ -16,6 +16,7 @@ use Rattle.text.specs.Name.{isName}
 use Rattle.number.specs.Count.{value, isCount}
 use Rattle.number.specs.Number.{numberOf}
 use Rattle.number.proofs.CountLaws.{count-within}
+use Rattle.number.proofs.DecimalLaws.{read-decimal}
 use Rattle.text.specs.Reading.{Word, Line, nth}
 use Rattle.layout.specs.Grammar.{Typed, nothing, State, start, Reading, stopped, sectionOf, follows, opens, withEntry, namesOf, known, placed, entryFault, wordsOf, countRight, openFault, fault, next, finish, readFrom}
 use Rattle.layout.specs.Plain.{IsEntry}
@@ -45,7 +46,7 @@ module _ (st : State) (l : Line) (e : entryFault st l ≡ 0) where
   entry-good =
       let p = and-true (numberOf (nth l 1) .ok) ((numberOf (nth l 2) .ok) && (numberOf (nth l 3) .ok)) (not-false _ (faults .1 .1 .0)) in
       let q = and-true (numberOf (nth l 2) .ok) (numberOf (nth l 3) .ok) (p .1) in
-      record { four = entry-four; name = not-false _ (faults .1 .0); x = p .0; y = q .0; z = q .1 }
+      record { four = entry-four; name = not-false _ (faults .1 .0); x = read-decimal (nth l 1) (p .0); y = read-decimal (nth l 2) (q .0); z = read-decimal (nth l 3) (q .1) }
 
   pub entry-new : eqb (st .sect) 2 ≡ true → known (nth l 0) (namesOf (st .typed .rooms)) ≡ false
   entry-new s = and-false (eqb (st .sect) 2) (known (nth l 0) (namesOf (st .typed .rooms))) (faults .1 .1 .1) s

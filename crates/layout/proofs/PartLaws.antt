@@ -11,6 +11,7 @@ use Rattle.text.specs.Name.{isName, lowered, sameName}
 use Rattle.number.specs.Number.{numberOf, printed, sixed, Said}
 use Rattle.text.proofs.NameLaws.{name-lowered, lowered-again, same-name-lowered, same-name-sym}
 use Rattle.number.proofs.NumberTrip.{read-said, sixed-read, sixed-again}
+use Rattle.number.proofs.DecimalLaws.{decimal-ok, read-decimal}
 use Rattle.text.proofs.WrittenLaws.{AllPlain}
 use Rattle.text.proofs.WordLaws.{name-plain}
 use Rattle.number.proofs.WordLaws.{number-plain}
@@ -49,9 +50,9 @@ unfolding entryOf
 entry-of-good l g = record {
   name = name-lowered (nth l 0) (g .name);
   small = lowered-again (nth l 0);
-  x = read-said (nth l 1) (g .x);
-  y = read-said (nth l 2) (g .y);
-  z = read-said (nth l 3) (g .z);
+  x = read-said (nth l 1) (decimal-ok (nth l 1) (g .x));
+  y = read-said (nth l 2) (decimal-ok (nth l 2) (g .y));
+  z = read-said (nth l 3) (decimal-ok (nth l 3) (g .z));
 }
 
 -- names in lower case are apart as the typed ones are
@@ -92,7 +93,7 @@ number-ok x s = ap (λ (y : Num). y .ok) (sixed-read x s) ∙ s .right
 
 pub line-good : (e : Entry) → GoodEntry e → IsEntry (entryLine e)
 unfolding entryLine
-line-good e g = record { four = refl; name = g .name; x = number-ok (e .x) (g .x); y = number-ok (e .y) (g .y); z = number-ok (e .z) (g .z) }
+line-good e g = record { four = refl; name = g .name; x = read-decimal _ (number-ok (e .x) (g .x)); y = read-decimal _ (number-ok (e .y) (g .y)); z = read-decimal _ (number-ok (e .z) (g .z)) }
 
 pub line-plain : (e : Entry) → GoodEntry e → AllPlain (entryLine e)
 unfolding entryLine

@@ -78,34 +78,36 @@ pub record Cut (P : List Line → List Line → Type 0) (k : ℕ) (t : Typed) (l
   pub full : Each Full behind
   pub goes-on : Accepts (at k 0 (withEntries k t entries)) behind u
 
+none : (es : List Line) → length es ≡ 0 → es ≡ []
+none [] e = refl
+none (x ∷ es) e = absurd (omega arith)
+
+-- a head with its count, and the entries taken behind it
+taken-told : (k : ℕ) (t : Typed) (l : Line) (c : Word) (ls : List Line) (u : Typed) → l ≡ keyOf k ∷ c ∷ [] → countRight k c ≡ true → Taken k (value 0 c) t ls u → Cut (Section (keyOf k)) k t (l ∷ ls) u
+taken-told k t l c ls u line right q = record {
+  own = l ∷ q .entries;
+  entries = q .entries;
+  behind = q .behind;
+  cut = ap (λ (x : List Line). l ∷ x) (q .cut);
+  is = record {
+    count = c;
+    spelled = ap (λ (x : Line). x ∷ q .entries) line;
+    right = count-right k c right;
+    told = sym (q .many);
+    entry = each-at IsEntry [] (q .entries) (q .right);
+  };
+  few = λ e. none (q .entries) (q .many ∙ hooks-none k c right e);
+  full = q .full;
+  goes-on = q .goes-on;
+}
+
 -- the first line opens section k
 pub section-told : (sect k : ℕ) (t : Typed) (w : Word) (ws : Line) (ls : List Line) (u : Typed) → 2 ≤ k → k ≤ 5 → opens sect w ≡ k → Each Full ls → Accepts (at sect 0 t) ((w ∷ ws) ∷ ls) u → Cut (Section (keyOf k)) k t ((w ∷ ws) ∷ ls) u
 section-told sect k t w ws ls u low high o f h =
     let (z, r) = rw o at (accepts-open sect t w ws ls u h) in
     let key = section-key w k (opens-is sect w k o (open-some k (w ∷ ws) z) .0) (open-some k (w ∷ ws) z) in
     let (line, right) = head-told k low high w ws key z in
-    let c = nth (w ∷ ws) 1 in
-    let q = accepts-entries k (value 0 c) t ls u (omega arith) f r in
-    record {
-      own = (w ∷ ws) ∷ q .entries;
-      entries = q .entries;
-      behind = q .behind;
-      cut = ap (λ (x : List Line). (w ∷ ws) ∷ x) (q .cut);
-      is = record {
-        count = c;
-        spelled = ap (λ (l : Line). l ∷ q .entries) line;
-        right = count-right k c right;
-        told = sym (q .many);
-        entry = each-at IsEntry [] (q .entries) (q .right);
-      };
-      few = λ e. none (q .entries) (q .many ∙ hooks-none k c right e);
-      full = q .full;
-      goes-on = q .goes-on;
-    }
-  where
-    none : (es : List Line) → length es ≡ 0 → es ≡ []
-    none [] e = refl
-    none (x ∷ es) e = absurd (omega arith)
+    taken-told k t (w ∷ ws) (nth (w ∷ ws) 1) ls u line right (accepts-entries k (value 0 (nth (w ∷ ws) 1)) t ls u (omega arith) f r)
 
 -- ---- a section that may be left out, between the section before it and those behind it
 

@@ -1,4 +1,4 @@
--- A layout as the paper tells it, with no reader of lines in it: which lines a text has. Definitions only.
+-- A layout as the paper tells it, with no reader in it: which lines a text has. Definitions only.
 use mathlib.Core.Path.{_≡_}
 use mathlib.Core.Logic.{_⊎_}
 use mathlib.Core.Bool.{true, false}
@@ -8,16 +8,16 @@ use lib.ListN.{length, getD}
 use Rattle.text.specs.Name.{isName, sameName}
 use Rattle.text.specs.Reading.{Word, Line, nth, spoken}
 use Rattle.number.specs.Count.{value, isCount}
-use Rattle.number.specs.Number.{numberOf}
+use Rattle.number.specs.Number.{Decimal}
 use Rattle.layout.specs.Grammar.{Typed, beginlayout, roomcount, trackcount, obstaclecount, doorhookcount, donelayout}
 
 -- an entry: name x y z
 pub record IsEntry (l : Line) : Type 0 where
   pub four : length l ≡ 4
   pub name : isName (nth l 0) ≡ true
-  pub x : numberOf (nth l 1) .ok ≡ true
-  pub y : numberOf (nth l 2) .ok ≡ true
-  pub z : numberOf (nth l 3) .ok ≡ true
+  pub x : Decimal (nth l 1)
+  pub y : Decimal (nth l 2)
+  pub z : Decimal (nth l 3)
 
 -- a section: its keyword with a count, and so many entries
 pub record Section (key : Word) (ls entries : List Line) : Type 0 where
