@@ -16,7 +16,7 @@ use Rattle.verdict.proofs.Bools.{decided}
 use Rattle.verdict.proofs.Lowest.{lowest-within, lowest-same}
 use Rattle.verdict.proofs.Verdict.{then-stop, passed, each-met}
 use Rattle.tables.specs.Parts.{Parts}
-use Rattle.border.specs.Halves.{halves}
+use Rattle.pairs.specs.Halves.{halves}
 use Rattle.border.specs.Loops.{wrongEdge, missing, rule17, EdgesIn}
 use Rattle.border.specs.Memory.{marksOf, unmarked}
 use Rattle.border.proofs.Marks.{cleared-marks, edge-in, edges-before, unmarked-missing}

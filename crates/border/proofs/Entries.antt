@@ -13,10 +13,10 @@ use Rattle.verdict.proofs.Bools.{clash, test, decided, and-false, or-false, fal
 use Rattle.verdict.proofs.Lowest.{none-under, under-none, some-under, found-under}
 use Rattle.verdict.proofs.Verdict.{each-met, each-passes, then-both, passed, unbroken, met}
 use Rattle.tables.specs.Parts.{none32, Parts, edgeOf, transition}
-use Rattle.border.specs.Halves.{halves, border}
+use Rattle.pairs.specs.Halves.{halves, border}
+use Rattle.pairs.proofs.Paired.{border-of, border-to}
 use Rattle.border.specs.Loops.{standsIn, wrongEdge, missing, rule17, wrongTransition, rule18}
 use Rattle.border.specs.Plain.{OneEntry, Bordered, Linked}
-use Rattle.border.proofs.Paired.{border-of, border-to}
 
 module _ (p : Parts) where
   -- ---- 17

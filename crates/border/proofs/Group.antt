@@ -1,4 +1,4 @@
--- The two groups of rules, 15 and 16, and 17 to 19: what the code found, joined in order. Assumes nothing.
+-- Rules 17 to 19 as one group: what the code found, joined in order. Assumes nothing.
 use mathlib.Core.Path.{_≡_}
 use mathlib.Core.Bool.{not}
 use Prim.Native.Nat.{ℕ}
@@ -8,15 +8,10 @@ use Rattle.verdict.specs.Verdict.{rule, ruleOfEach, _then_}
 use Rattle.verdict.specs.declared.Answer.{Answer}
 use Rattle.verdict.proofs.Verdict.{then-stop, then-assoc, Proper, rule-proper, each-proper, then-proper}
 use Rattle.tables.specs.Parts.{Parts}
-use Rattle.border.specs.Halves.{halves, repeats, wrongAdjacent, rule15, rule16, rules15to16}
+use Rattle.pairs.specs.Halves.{halves}
 use Rattle.border.specs.Loops.{wrongEdge, missing, wrongTransition, loopStart, wrongLoop, rule17, rule18, rule19, rules17to19}
 
 module _ (p : Parts) where
-  pub pairs-rule : (n twice wrong : ℕ) (a r : Answer) → n ≡ halves p → twice ≡ lowest (halves p) (repeats p) → wrong ≡ lowest (halves p) (wrongAdjacent p)
-      → a ≡ rule 15 (ltb twice n) twice → r ≡ (a then rule 16 (ltb wrong n) wrong) → r ≡ rules15to16 p
-  unfolding rules15to16 rule15 rule16 ruleOfEach
-  pairs-rule n twice wrong a r e f g h k = cc
-
   pub loops-rule : (count loops wrong last : ℕ) (so a r : Answer) → count ≡ p .edges → loops ≡ p .perimeters → wrong ≡ lowest (p .perimeters) (wrongLoop p)
       → last ≡ loopStart p loops → a ≡ (so then rule 19 (ltb wrong loops) wrong) → r ≡ (a then rule 19 (not (eqb last count)) loops)
       → r ≡ (so then rule19 p)
@@ -33,13 +28,7 @@ module _ (p : Parts) where
   unfolding rules17to19 rule18 ruleOfEach
   all-rules count wrong a b r e f g h k = cc
 
-  -- ---- where a group accepts, it accepts at place 0
-
-  pub pairs-proper : Proper (rules15to16 p)
-  unfolding rules15to16 rule15 rule16
-  pairs-proper =
-      then-proper (ruleOfEach 15 (halves p) (repeats p) (λ h. h)) (ruleOfEach 16 (halves p) (wrongAdjacent p) (λ h. h))
-      (each-proper 14 (halves p) (repeats p) (λ h. h)) (each-proper 15 (halves p) (wrongAdjacent p) (λ h. h))
+  -- ---- where the group accepts, it accepts at place 0
 
   edges-proper : Proper (rule17 p)
   unfolding rule17

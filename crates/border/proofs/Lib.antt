@@ -1,9 +1,7 @@
-pub mod Halves
 pub mod Loops
 pub mod Marks
 pub mod Edges
 pub mod Group
-pub mod Paired
 pub mod Entries
 pub mod Rings
 pub mod Sound

@@ -1,14 +1,24 @@
--- Laws that the code of rules 18 and 19 goes by: a transition, where a loop starts, what follows an edge in its run, and when a loop is
--- wrong. Assumes nothing.
+-- Laws that the code of rules 17 to 19 goes by: how many entries there may be, a transition, where a loop starts, what follows an edge in
+-- its run, and when a loop is wrong. Assumes nothing.
 use mathlib.Core.Path.{_≡_, refl, ap}
 use mathlib.Core.Bool.{true, false, not}
+use mathlib.Core.List.{List}
 use Prim.Native.Nat.{ℕ, zero, suc, _+_, _-_, _<_, _≤_}
 use native.Mathlib.Omega.{arith}
 use native.Mathlib.Numerals.{add-one}
 use lib.Dec.{eqb}
 use borrow.Author.Tests.{eq-eqb, ne-eqb, lt-ltb, le-ltb}
-use Rattle.tables.specs.Parts.{none32, Parts, transition, loopEnd}
+use Rattle.tables.specs.Header.{RightHeader}
+use Rattle.tables.specs.Parts.{none32, Parts, partsOf, transition, loopEnd}
+use Rattle.tables.proofs.Reading.{sized-of}
 use Rattle.border.specs.Loops.{wrongTransition, loopStart, after, openRun, wrongLoop}
+
+-- the counts of a right header
+pub few-edges : (b : List ℕ) → RightHeader b → partsOf b .edges ≤ 12288
+few-edges b r = sized-of b r .edges
+
+pub few-loops : (b : List ℕ) → RightHeader b → partsOf b .perimeters ≤ 12288
+few-loops b r = sized-of b r .perimeters
 
 -- a transition up to 63, and one past it
 module _ (p : Parts) (i t : ℕ) (own : t ≡ transition p i) where

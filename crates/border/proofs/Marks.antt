@@ -19,10 +19,10 @@ use Rattle.verdict.proofs.Lowest.{lowest-is, some-under, found-under, none-unde
 use Rattle.verdict.proofs.Marks.{is-marked, not-marked}
 use Rattle.verdict.proofs.Memory.{length-cleared, getD-cleared, drop-cleared, cleared-same}
 use Rattle.tables.specs.Parts.{Parts, edgeOf}
-use Rattle.border.specs.Halves.{halves, border}
+use Rattle.pairs.specs.Halves.{halves, border}
+use Rattle.pairs.proofs.Halves.{border-in}
 use Rattle.border.specs.Loops.{standsIn, wrongEdge, missing}
 use Rattle.border.specs.Memory.{marksOf, wrongBy, unmarked}
-use Rattle.border.proofs.Halves.{border-in}
 
 -- one number more, of which the test does not hold
 any-more : (t : ℕ → Bool) (n : ℕ) → t n ≡ false → anyUnder (suc n) t ≡ anyUnder n t

@@ -13,7 +13,7 @@ use Rattle.verdict.proofs.Bools.{decided, or-false, not-of-true}
 use Rattle.verdict.proofs.Lowest.{none-under, under-none}
 use Rattle.verdict.proofs.Verdict.{each-met, each-passes, then-both, passed, unbroken, met}
 use Rattle.tables.specs.Parts.{Parts, edgeOf, loopEnd}
-use Rattle.border.specs.Halves.{from, to}
+use Rattle.pairs.specs.Halves.{from, to}
 use Rattle.border.specs.Loops.{loopStart, after, openAt, openRun, wrongLoop, rule19}
 use Rattle.border.specs.Plain.{OneLoop, ClosedChain, Looped}
 use Rattle.border.proofs.Loops.{after-step, after-last, loop-run}

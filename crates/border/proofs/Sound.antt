@@ -4,10 +4,11 @@ use Prim.Native.Nat.{ℕ}
 use Rattle.verdict.specs.Verdict.{accepted, _then_}
 use Rattle.verdict.proofs.Verdict.{passed, then-both}
 use Rattle.tables.specs.Parts.{Parts}
-use Rattle.border.specs.Halves.{rules15to16}
+use Rattle.pairs.specs.Halves.{rules15to16}
+use Rattle.pairs.specs.Plain.{Border}
+use Rattle.pairs.proofs.Paired.{paired-of, paired-to}
 use Rattle.border.specs.Loops.{rule17, rule18, rule19, rules17to19}
-use Rattle.border.specs.Plain.{Border, Placed, SoundBorders}
-use Rattle.border.proofs.Paired.{paired-of, paired-to}
+use Rattle.border.specs.Plain.{Placed, SoundBorders}
 use Rattle.border.proofs.Entries.{bordered-of, bordered-to, linked-of, linked-to}
 use Rattle.border.proofs.Rings.{looped-of, looped-to, one-loop}
 

@@ -6,7 +6,7 @@ use Rattle.verdict.specs.Lowest.{anyUnder}
 use Rattle.verdict.specs.Verdict.{rule, ruleOfEach, _then_}
 use Rattle.verdict.specs.declared.Answer.{Answer}
 use Rattle.tables.specs.Parts.{none32, Parts, edgeOf, transition, loopEnd}
-use Rattle.border.specs.Halves.{halves, from, to, border}
+use Rattle.pairs.specs.Halves.{halves, from, to, border}
 
 -- half-edge h stands in one of the first n edge entries
 unfoldable pub standsIn : Parts → ℕ → ℕ → Bool

@@ -5,7 +5,7 @@ use mathlib.Core.List.{List}
 use lib.ListN.{set}
 use Rattle.verdict.specs.Memory.{isMarked}
 use Rattle.tables.specs.Parts.{Parts, edgeOf}
-use Rattle.border.specs.Halves.{border}
+use Rattle.pairs.specs.Halves.{border}
 
 -- a memory in which the half-edges of the first n edge entries are marked
 unfoldable pub marksOf : Parts → ℕ → List ℕ → List ℕ

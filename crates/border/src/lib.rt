@@ -1,27 +1,19 @@
-// Rules 15 to 19: half-edges and their partners, edge entries and loops.
+// Rules 17 to 19: edge entries, transitions and loops.
 use verdict::Answer;
 ghost use mathlib.Core.Path.{_≡_};
-ghost use Prim.Native.Nat.{_+_, _*_, _<_, _≤_};
+ghost use Prim.Native.Nat.{_<_, _≤_};
 ghost use lib.ListN.{length};
 ghost use Rattle.verdict.specs.Lowest.{lowest};
 ghost use Rattle.verdict.specs.Verdict.{_then_};
 ghost use Rattle.verdict.specs.Memory.{workSize, clearedTo};
 ghost use Rattle.tables.specs.Header.{RightHeader};
-ghost use Rattle.tables.specs.Parts.{partsOf, adjacentTo, edgeOf, transition, loopEnd};
-ghost use Rattle.border.specs.Halves.{halves, from, to, runs, repeats, partner, border, pairing, wrongAdjacent, rules15to16, RightPairs};
+ghost use Rattle.tables.specs.Parts.{partsOf, edgeOf, transition, loopEnd};
+ghost use Rattle.pairs.specs.Halves.{halves, rules15to16, RightPairs};
 ghost use Rattle.border.specs.Loops.{wrongEdge, rule17, wrongTransition, loopStart, after, openAt, openRun, wrongLoop, rule19, rules17to19, EdgesIn};
 ghost use Rattle.border.specs.Memory.{marksOf, wrongBy, unmarked};
-ghost use Rattle.border.specs.Index.{Ready};
 
+// No transition.
 const NONE: u32 = 0xFFFF_FFFF;
-
-// The number of half-edges of walkable faces.
-fn halves_of(bytes: &[u8]) -> usize
-    requires { ⌜ RightHeader (now bytes) × (136 ≤ length (now bytes)) ⌝ }
-    ensures { λ r. ⌜ (r ≡ halves (partsOf (now (bytes .entry)))) × (r ≤ 12288) ⌝ }
-{
-    3 * tables::count_of(bytes, 6)
-}
 
 // The number of edge entries.
 fn edges_of(bytes: &[u8]) -> usize
@@ -37,30 +29,6 @@ fn loops_of(bytes: &[u8]) -> usize
     ensures { λ r. ⌜ (r ≡ (partsOf (now (bytes .entry)) .perimeters)) × (r ≤ 12288) ⌝ }
 {
     tables::count_of(bytes, 8)
-}
-
-// The vertex where half-edge h starts.
-fn from_of(bytes: &[u8], h: usize) -> usize
-    requires { ⌜ RightHeader (now bytes) × (136 ≤ length (now bytes)) × (h < halves (partsOf (now bytes))) ⌝ }
-    ensures { λ r. ⌜ r ≡ from (partsOf (now (bytes .entry))) h ⌝ }
-{
-    tables::corner_of(bytes, h / 3, h % 3)
-}
-
-// The vertex where half-edge h ends.
-fn to_of(bytes: &[u8], h: usize) -> usize
-    requires { ⌜ RightHeader (now bytes) × (136 ≤ length (now bytes)) × (h < halves (partsOf (now bytes))) ⌝ }
-    ensures { λ r. ⌜ r ≡ to (partsOf (now (bytes .entry))) h ⌝ }
-{
-    tables::corner_of(bytes, h / 3, (h % 3 + 1) % 3)
-}
-
-// Adjacency entry h.
-fn adjacent_of(bytes: &[u8], h: usize) -> u32
-    requires { ⌜ RightHeader (now bytes) × (136 ≤ length (now bytes)) × (h < halves (partsOf (now bytes))) ⌝ }
-    ensures { λ r. ⌜ r ≡ adjacentTo (partsOf (now (bytes .entry))) h ⌝ }
-{
-    tables::word_of(bytes, 6, h / 3, h % 3)
 }
 
 // The half-edge of edge entry i.
@@ -98,146 +66,6 @@ fn loop_start(bytes: &[u8], j: usize) -> usize
     loop_end(bytes, j - 1)
 }
 
-// Whether half-edge h runs from vertex a to vertex b.
-fn runs_so(bytes: &[u8], a: usize, b: usize, h: usize) -> bool
-    requires { ⌜ RightHeader (now bytes) × (136 ≤ length (now bytes)) × (h < halves (partsOf (now bytes))) ⌝ }
-    ensures { λ r. ⌜ r ≡ runs (partsOf (now (bytes .entry))) a b h ⌝ }
-{
-    if from_of(bytes, h) == a {
-        return to_of(bytes, h) == b;
-    }
-    false
-}
-
-// The lowest half-edge under n that runs from vertex a to vertex b, or n: the one search.
-fn first_run(bytes: &[u8], work: &[u8], n: usize, a: usize, b: usize) -> usize
-    requires { ⌜ RightHeader (now bytes) × (136 ≤ length (now bytes)) × (n ≤ halves (partsOf (now bytes))) ⌝ }
-    requires ready { ⌜ Ready (partsOf (now bytes)) (now work) ⌝ }
-    ensures { λ r. ⌜ r ≡ lowest n (runs (partsOf (now (bytes .entry))) a b) ⌝ }
-{
-    let mut h = 0;
-    while h < n {
-        if runs_so(bytes, a, b, h) {
-            return h;
-        }
-        h += 1;
-    }
-    n
-}
-
-// Makes the memory ready for the search.
-fn prepare(bytes: &[u8], work: &mut [u8])
-    requires { ⌜ RightHeader (now bytes) × (136 ≤ length (now bytes)) × (workSize ≤ length (now work)) ⌝ }
-    ensures ready { λ _. ⌜ Ready (partsOf (now (bytes .entry))) (now (work .exit)) ⌝ }
-    ensures rest { λ _. ⌜ clearedTo workSize (now (work .exit)) ≡ clearedTo workSize (now (work .entry)) ⌝ }
-{}
-
-// Whether half-edge h runs exactly as a lower one.
-fn repeats_at(bytes: &[u8], work: &[u8], h: usize) -> bool
-    requires { ⌜ RightHeader (now bytes) × (136 ≤ length (now bytes)) × (h < halves (partsOf (now bytes))) ⌝ }
-    requires ready { ⌜ Ready (partsOf (now bytes)) (now work) ⌝ }
-    ensures { λ r. ⌜ r ≡ repeats (partsOf (now (bytes .entry))) h ⌝ }
-{
-    let a = from_of(bytes, h);
-    let b = to_of(bytes, h);
-    first_run(bytes, work, h, a, b) < h
-}
-
-fn first_repeat(bytes: &[u8], work: &[u8]) -> usize
-    requires { ⌜ RightHeader (now bytes) × (136 ≤ length (now bytes)) ⌝ }
-    requires ready { ⌜ Ready (partsOf (now bytes)) (now work) ⌝ }
-    ensures { λ r. ⌜ r ≡ lowest (halves (partsOf (now (bytes .entry)))) (repeats (partsOf (now (bytes .entry)))) ⌝ }
-{
-    let n = halves_of(bytes);
-    let mut h = 0;
-    while h < n {
-        if repeats_at(bytes, work, h) {
-            return h;
-        }
-        h += 1;
-    }
-    n
-}
-
-// The partner of half-edge h, or the number of half-edges.
-fn partner_of(bytes: &[u8], work: &[u8], h: usize) -> usize
-    requires { ⌜ RightHeader (now bytes) × (136 ≤ length (now bytes)) × (h < halves (partsOf (now bytes))) ⌝ }
-    requires ready { ⌜ Ready (partsOf (now bytes)) (now work) ⌝ }
-    ensures { λ r. ⌜ r ≡ partner (partsOf (now (bytes .entry))) h ⌝ }
-{
-    let n = halves_of(bytes);
-    let a = to_of(bytes, h);
-    let b = from_of(bytes, h);
-    first_run(bytes, work, n, a, b)
-}
-
-// What adjacency entry h should be.
-fn pairing_of(bytes: &[u8], work: &[u8], h: usize) -> u32
-    requires { ⌜ RightHeader (now bytes) × (136 ≤ length (now bytes)) × (h < halves (partsOf (now bytes))) ⌝ }
-    requires ready { ⌜ Ready (partsOf (now bytes)) (now work) ⌝ }
-    ensures { λ r. ⌜ r ≡ pairing (partsOf (now (bytes .entry))) h ⌝ }
-{
-    let n = halves_of(bytes);
-    let g = partner_of(bytes, work, h);
-    if g < n {
-        return g as u32;
-    }
-    NONE
-}
-
-// Whether adjacency entry h is wrong.
-fn wrong_adjacent(bytes: &[u8], work: &[u8], h: usize) -> bool
-    requires { ⌜ RightHeader (now bytes) × (136 ≤ length (now bytes)) × (h < halves (partsOf (now bytes))) ⌝ }
-    requires ready { ⌜ Ready (partsOf (now bytes)) (now work) ⌝ }
-    ensures { λ r. ⌜ r ≡ wrongAdjacent (partsOf (now (bytes .entry))) h ⌝ }
-{
-    let own = adjacent_of(bytes, h);
-    let right = pairing_of(bytes, work, h);
-    own != right
-}
-
-fn first_wrong_adjacent(bytes: &[u8], work: &[u8]) -> usize
-    requires { ⌜ RightHeader (now bytes) × (136 ≤ length (now bytes)) ⌝ }
-    requires ready { ⌜ Ready (partsOf (now bytes)) (now work) ⌝ }
-    ensures { λ r. ⌜ r ≡ lowest (halves (partsOf (now (bytes .entry)))) (wrongAdjacent (partsOf (now (bytes .entry)))) ⌝ }
-{
-    let n = halves_of(bytes);
-    let mut h = 0;
-    while h < n {
-        if wrong_adjacent(bytes, work, h) {
-            return h;
-        }
-        h += 1;
-    }
-    n
-}
-
-// Rules 15 and 16.
-pub fn pairs_verdict(bytes: &[u8], work: &mut [u8]) -> Answer
-    requires { ⌜ RightHeader (now bytes) × (136 ≤ length (now bytes)) × (workSize ≤ length (now work)) ⌝ }
-    ensures answer { λ r. ⌜ r ≡ rules15to16 (partsOf (now (bytes .entry))) ⌝ }
-    ensures memory { λ _. ⌜ now (work .exit) ≡ clearedTo workSize (now (work .entry)) ⌝ }
-{
-    let n = halves_of(bytes);
-    prepare(bytes, work);
-    let twice = first_repeat(bytes, work);
-    let wrong = first_wrong_adjacent(bytes, work);
-    verdict::clear(work);
-    let a = verdict::first_rule(15, twice < n, twice as u32);
-    verdict::then_rule(a, 16, wrong < n, wrong as u32)
-}
-
-// Whether half-edge h is a border: where 15 and 16 are unbroken the adjacency entry says so.
-fn is_border(bytes: &[u8], h: usize) -> bool
-    requires { ⌜ RightHeader (now bytes) × (136 ≤ length (now bytes)) × RightPairs (partsOf (now bytes)) ⌝ }
-    ensures { λ r. ⌜ r ≡ border (partsOf (now (bytes .entry))) h ⌝ }
-{
-    if h < halves_of(bytes) {
-        return adjacent_of(bytes, h) == NONE;
-    }
-    false
-}
-
 // Whether edge entry i is no border, or is marked already.
 fn wrong_by(bytes: &[u8], work: &[u8], i: usize) -> bool
     requires { ⌜ RightHeader (now bytes) × (136 ≤ length (now bytes)) × RightPairs (partsOf (now bytes)) ⌝ }
@@ -245,7 +73,7 @@ fn wrong_by(bytes: &[u8], work: &[u8], i: usize) -> bool
     ensures { λ r. ⌜ r ≡ wrongBy (partsOf (now (bytes .entry))) (now (work .entry)) i ⌝ }
 {
     let h = edge_of(bytes, i);
-    if is_border(bytes, h) {
+    if pairs::is_border(bytes, h) {
         return work[h] != 0;
     }
     true
@@ -278,7 +106,7 @@ fn is_unmarked(bytes: &[u8], work: &[u8], h: usize) -> bool
     requires marks { ⌜ (workSize ≤ length (now work)) × (h < halves (partsOf (now bytes))) ⌝ }
     ensures { λ r. ⌜ r ≡ unmarked (partsOf (now (bytes .entry))) (now (work .entry)) h ⌝ }
 {
-    if is_border(bytes, h) {
+    if pairs::is_border(bytes, h) {
         return work[h] == 0;
     }
     false
@@ -289,7 +117,7 @@ fn first_unmarked(bytes: &[u8], work: &[u8]) -> usize
     requires marks { ⌜ workSize ≤ length (now work) ⌝ }
     ensures { λ r. ⌜ r ≡ lowest (halves (partsOf (now (bytes .entry)))) (unmarked (partsOf (now (bytes .entry))) (now (work .entry))) ⌝ }
 {
-    let n = halves_of(bytes);
+    let n = pairs::halves_of(bytes);
     let mut h = 0;
     while h < n {
         if is_unmarked(bytes, work, h) {
@@ -307,7 +135,7 @@ fn edges_found(bytes: &[u8], work: &mut [u8]) -> Answer
     ensures answer { λ r. ⌜ r ≡ rule17 (partsOf (now (bytes .entry))) ⌝ }
     ensures rest { λ _. ⌜ clearedTo workSize (now (work .exit)) ≡ clearedTo workSize (now (work .entry)) ⌝ }
 {
-    let n = halves_of(bytes);
+    let n = pairs::halves_of(bytes);
     let count = edges_of(bytes);
     let wrong = mark_edges(bytes, work);
     let gap = first_unmarked(bytes, work);
@@ -374,8 +202,8 @@ fn open_at(bytes: &[u8], s: usize, t: usize, i: usize) -> bool
     let next = after_of(s, t, i);
     let h = edge_of(bytes, i);
     let g = edge_of(bytes, next);
-    let end = to_of(bytes, h);
-    let start = from_of(bytes, g);
+    let end = pairs::to_of(bytes, h);
+    let start = pairs::from_of(bytes, g);
     end != start
 }
 

@@ -1,19 +1,18 @@
 -- What the two calls answer, case by case. Assumes nothing.
 use mathlib.Core.Path.{_≡_, refl, sym, _∙_}
-use mathlib.Core.Bool.{Bool, true, false, cond, _||_}
+use mathlib.Core.Bool.{true, false}
 use mathlib.Core.List.{List, []}
 use Prim.Native.Nat.{ℕ, _≤_, _<_}
 use native.Mathlib.Omega.{arith}
-use lib.Dec.{ltb}
 use lib.ListN.{length, getD}
 use borrow.Author.Tests.{lt-ltb, le-ltb}
 use Rattle.text.specs.Scan.{words, lineAt}
 use Rattle.text.specs.Reading.{nth}
 use Rattle.layout.specs.declared.Layout.{Layout}
-use Rattle.layout.specs.Rewrite.{roomNames}
+use Rattle.rooms.specs.Rooms.{roomNames}
 use Rattle.layout.specs.Starts.{keptName, Answered}
 use Rattle.layout.proofs.HeldLaws.{room-name}
-use Rattle.layout.proofs.AnswerLaws.{rooms-are, names-are}
+use Rattle.rooms.proofs.RoomLaws.{rooms-are, names-are}
 use Rattle.caption.specs.Caption.{hasRoom, roomName, captionOf, captionNumber}
 
 -- ---- the rooms of a layout, by what the reader answered

@@ -23,7 +23,7 @@ use Rattle.text.proofs.RunLaws.{run-le, run-drop, run-cons-on}
 use Rattle.text.proofs.SplitLaws.{cursor-first, cursor-within, line-step, line-none}
 use Rattle.layout.specs.Grammar.{Typed, start, namesOf}
 use Rattle.layout.specs.Layout.{layoutVerdict, layoutOf, grammar}
-use Rattle.layout.specs.Rewrite.{roomNames}
+use Rattle.rooms.specs.Rooms.{roomNames}
 use Rattle.caption.specs.Caption.{hasRoom, roomName, entersAs, namePlace, roomPlace}
 use Rattle.layout.proofs.EachLaws.{length-names, names-at}
 use Rattle.layout.proofs.GoodLaws.{good-start}

@@ -1,14 +1,13 @@
 -- Where a caption stands: the search for its line, and the answer case by case. Assumes nothing.
-use mathlib.Core.Path.{_≡_, refl, sym, ap, _∙_}
-use mathlib.Core.Bool.{Bool, true, false, cond, _&&_}
-use mathlib.Core.List.{List, [], _∷_}
-use Prim.Native.Nat.{ℕ, suc, _+_, _-_, _≤_, _<_}
+use mathlib.Core.Path.{_≡_, refl, ap, _∙_}
+use mathlib.Core.Bool.{Bool, true, false}
+use mathlib.Core.List.{List}
+use Prim.Native.Nat.{ℕ, _+_, _-_, _≤_, _<_}
 use native.Mathlib.Omega.{arith}
-use lib.Dec.{eqb, ltb}
-use lib.ListN.{length, getD, take, drop, length-drop}
+use lib.Dec.{eqb}
+use lib.ListN.{length, drop, length-drop}
 use lib.Seq.{length-take-le}
 use borrow.Author.Tests.{eq-eqb, ne-eqb, eqb-true, eqb-false, ltb-true}
-use Rattle.verdict.specs.Verdict.{_then_}
 use Rattle.verdict.proofs.Bools.{test}
 use Rattle.verdict.proofs.Verdict.{passed}
 use Rattle.text.specs.Class.{isGap, isEnd}
@@ -22,7 +21,7 @@ use Rattle.text.proofs.SplitLaws.{line-step, line-none}
 use Rattle.caption.specs.declared.CaptionAt.{CaptionAt}
 use Rattle.layout.specs.Grammar.{namesOf}
 use Rattle.layout.specs.Layout.{layoutVerdict, layoutOf, grammar}
-use Rattle.layout.specs.Rewrite.{roomNames}
+use Rattle.rooms.specs.Rooms.{roomNames}
 use Rattle.caption.specs.Caption.{hasRoom, roomName, captionOf, captionNumber, entersAs, namePlace, roomPlace, foundAt, captionAt}
 use Rattle.layout.proofs.ReadLaws.{layout-refused}
 

@@ -2,7 +2,7 @@
 -- equal. Assumes nothing.
 use mathlib.Core.Path.{_≡_, refl, sym, ap, _∙_}
 use mathlib.Core.Logic.{_⊎_, inl, inr, _↔_}
-use mathlib.Core.Bool.{Bool, true, false, cond, _||_}
+use mathlib.Core.Bool.{true, false, cond}
 use mathlib.Core.List.{List, []}
 use Prim.Native.Nat.{ℕ, _+_, _≤_, _<_}
 use native.Mathlib.Omega.{arith}
@@ -16,7 +16,7 @@ use Rattle.text.specs.Name.{isName}
 use Rattle.text.proofs.NameLaws.{name-clean}
 use Rattle.layout.specs.Grammar.{namesOf}
 use Rattle.layout.specs.Layout.{layoutOf}
-use Rattle.layout.specs.Rewrite.{roomNames}
+use Rattle.rooms.specs.Rooms.{roomNames}
 use Rattle.layout.proofs.EachLaws.{each-at, length-names, names-at}
 use Rattle.layout.specs.Plain.{IsEntry}
 use Rattle.layout.proofs.ReadLaws.{layout-good}

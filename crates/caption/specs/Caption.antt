@@ -9,7 +9,7 @@ use Rattle.text.specs.Scan.{run, words, lines}
 use Rattle.text.specs.Name.{same}
 use Rattle.text.specs.Reading.{Word, nth}
 use Rattle.caption.specs.declared.CaptionAt.{CaptionAt}
-use Rattle.layout.specs.Rewrite.{roomNames}
+use Rattle.rooms.specs.Rooms.{roomNames}
 
 -- the layout reads and has room i; a refused one has no rooms
 unfoldable pub hasRoom : List ℕ → ℕ → Bool

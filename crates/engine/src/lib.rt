@@ -16,11 +16,11 @@ ghost use Rattle.query.specs.Points.{pointAnswer};
 ghost use Rattle.record.specs.Area.{areaFloor};
 ghost use Rattle.journal.specs.Wish.{paintWish, linkWish, nudgeWish};
 ghost use Rattle.journal.specs.Step.{lent, left, editStep, undoStep, redoStep, putBackStep};
-ghost use Rattle.layout.specs.Layout.{partsOf, formText};
-ghost use Rattle.layout.specs.Rewrite.{rewriteVerdict, renameVerdict, renamedForm};
+ghost use Rattle.layoutform.specs.Form.{partsOf, formText};
+ghost use Rattle.layoutform.specs.Rewrite.{rewriteVerdict, renameVerdict, renamedForm};
 ghost use Rattle.caption.specs.Caption.{captionAt};
 ghost use Rattle.sight.specs.Sight.{rowAnswer};
-ghost use Rattle.sight.specs.Rewrite.{rewrittenSight, renamedSight, sightRewriteVerdict, sightRenameVerdict};
+ghost use Rattle.sightform.specs.Rewrite.{rewrittenSight, renamedSight, sightRewriteVerdict, sightRenameVerdict};
 ghost use Rattle.links.specs.Links.{linkVerdict};
 
 // The reader: rules 1 to 20, and the counts.
@@ -132,7 +132,7 @@ pub extern "C" fn wp_layout_rewrite(text: &[u8], out: &mut [u8]) -> Form
     ensures answer { λ f. ⌜ f ≡ formAnswer (rewriteVerdict (now (text .entry)) (length (now (out .entry)))) (formText (partsOf (now (text .entry)))) ⌝ }
     ensures memory { λ _. ⌜ now (out .exit) ≡ formMemory (rewriteVerdict (now (text .entry)) (length (now (out .entry)))) (formText (partsOf (now (text .entry)))) (now (out .entry)) ⌝ }
 {
-    layout::layout_rewrite(text, out)
+    layoutform::layout_rewrite(text, out)
 }
 
 // The same with another name for a room.
@@ -141,7 +141,7 @@ pub extern "C" fn wp_layout_rename(text: &[u8], room: u32, name: &[u8], out: &mu
     ensures answer { λ f. ⌜ f ≡ formAnswer (renameVerdict (now (text .entry)) room (now (name .entry)) (length (now (out .entry)))) (renamedForm (now (text .entry)) room (now (name .entry))) ⌝ }
     ensures memory { λ _. ⌜ now (out .exit) ≡ formMemory (renameVerdict (now (text .entry)) room (now (name .entry)) (length (now (out .entry)))) (renamedForm (now (text .entry)) room (now (name .entry))) (now (out .entry)) ⌝ }
 {
-    layout::layout_rename(text, room, name, out)
+    layoutform::layout_rename(text, room, name, out)
 }
 
 // Visibility in its fixed form.
@@ -150,7 +150,7 @@ pub extern "C" fn wp_sight_rewrite(layout: &[u8], vis: &[u8], out: &mut [u8]) ->
     ensures answer { λ f. ⌜ f ≡ formAnswer (sightRewriteVerdict (now (layout .entry)) (now (vis .entry)) (length (now (out .entry)))) (rewrittenSight (now (layout .entry)) (now (vis .entry))) ⌝ }
     ensures memory { λ _. ⌜ now (out .exit) ≡ formMemory (sightRewriteVerdict (now (layout .entry)) (now (vis .entry)) (length (now (out .entry)))) (rewrittenSight (now (layout .entry)) (now (vis .entry))) (now (out .entry)) ⌝ }
 {
-    sight::sight_rewrite(layout, vis, out)
+    sightform::sight_rewrite(layout, vis, out)
 }
 
 // The same with another name for a room.
@@ -165,7 +165,7 @@ pub extern "C" fn wp_sight_rename(
     ensures answer { λ f. ⌜ f ≡ formAnswer (sightRenameVerdict (now (layout .entry)) (now (vis .entry)) room (now (name .entry)) (length (now (out .entry)))) (renamedSight (now (layout .entry)) (now (vis .entry)) room (now (name .entry))) ⌝ }
     ensures memory { λ _. ⌜ now (out .exit) ≡ formMemory (sightRenameVerdict (now (layout .entry)) (now (vis .entry)) room (now (name .entry)) (length (now (out .entry)))) (renamedSight (now (layout .entry)) (now (vis .entry)) room (now (name .entry))) (now (out .entry)) ⌝ }
 {
-    sight::sight_rename(layout, vis, room, name, out)
+    sightform::sight_rename(layout, vis, room, name, out)
 }
 
 // A room's row, and how many rooms it sees.

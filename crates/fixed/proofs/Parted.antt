@@ -1,7 +1,7 @@
 -- The fixed form, written part by part. Assumes nothing.
 use mathlib.Core.Path.{_≡_, refl, sym, ap, _∙_}
 use mathlib.Core.List.{List, [], _∷_, _++_, append-assoc, append-nil}
-use Prim.Native.Nat.{ℕ, zero, suc, _+_, _*_, _≤_, _<_}
+use Prim.Native.Nat.{ℕ, zero, suc, _+_, _*_, _-_, _≤_, _<_}
 use native.Mathlib.Numerals.{add-one}
 use native.Mathlib.Omega.{arith}
 use lib.ListN.{length, getD, set, take, drop, length-append, length-drop, take-append-drop}
@@ -10,7 +10,7 @@ use Rattle.verdict.specs.Output.{over}
 use Rattle.verdict.proofs.Output.{over-is, over-none, length-over, drop-over, take-over}
 use Rattle.wire.specs.Bytes.{u32At, u32Bytes, put, putU32, Bytes}
 use Rattle.wire.specs.Words.{wordsAt, bytesOf, joined}
-use Rattle.wire.proofs.Put.{length-put, put-append, put-is}
+use Rattle.wire.proofs.Put.{put-append, put-is}
 use Rattle.wire.proofs.Numbers.{length-u32}
 use Rattle.wire.proofs.Runs.{bytes-append, length-bytes, read-spelled, joined-append}
 use Rattle.tables.specs.Tables.{tableAt}
@@ -39,20 +39,38 @@ copied-more d at s from j e h l =
     rw (h, add-one j, take-suc r j 0 short, getD-drop from s j 0)
     (sym (put-append (take j r) (getD s (from + j) 0 ∷ []) d at ∙ ap (λ (n : ℕ). put (put d at (take j r)) (at + n) (getD s (from + j) 0 ∷ [])) (length-take-le j r (omega arith))))
 
--- four numbers
-pub four-words : (o : List ℕ) (at a b c d : ℕ)
-    → putU32 (putU32 (putU32 (putU32 o at a) (at + 4) b) (at + 8) c) (at + 12) d ≡ put o at (bytesOf (a ∷ b ∷ c ∷ d ∷ []))
+pub sum-more : (n : ℕ) {a b : ℕ} → b ≡ a + n → a ≤ b
+sum-more n e = omega arith
+
+-- n bytes from `start`, where the code counts them from one end to the other
+pub span-copied : (o : List ℕ) {o₁ : List ℕ} (at : ℕ) (b : List ℕ) (from to start n : ℕ)
+    → from ≡ start → to ≡ from + n → o₁ ≡ put o at (take (to - from) (drop from b)) → (at + (to - from) ≡ at + n) × (o₁ ≡ put o at (take n (drop start b)))
+span-copied o at b from to start n p q e =
+    let d : to - from ≡ n = omega arith in
+    (ap (λ (x : ℕ). at + x) d, rw (e, d, p))
+
+-- four numbers, one after another
+pub four-words : (o : List ℕ) {o₁ o₂ o₃ o₄ : List ℕ} (at a b c d : ℕ)
+    → o₁ ≡ putU32 o at a → o₂ ≡ putU32 o₁ (at + 4) b → o₃ ≡ putU32 o₂ (at + 8) c → o₄ ≡ putU32 o₃ (at + 12) d → o₄ ≡ put o at (bytesOf (a ∷ b ∷ c ∷ d ∷ []))
 unfolding bytesOf
-four-words o at a b c d =
+four-words o at a b c d e₁ e₂ e₃ e₄ =
     let B = u32Bytes b ++ (u32Bytes c ++ (u32Bytes d ++ [])) in
     let C = u32Bytes c ++ (u32Bytes d ++ []) in
-    sym (next a B o at (at + 4) refl
+    rw (e₄, e₃, e₂, e₁)
+    (sym (next a B o at (at + 4) refl
     ∙ next b C (putU32 o at a) (at + 4) (at + 8) (omega arith)
     ∙ next c (u32Bytes d ++ []) (putU32 (putU32 o at a) (at + 4) b) (at + 8) (at + 12) (omega arith)
-    ∙ ap (put (putU32 (putU32 (putU32 o at a) (at + 4) b) (at + 8) c) (at + 12)) (append-nil (u32Bytes d)))
+    ∙ ap (put (putU32 (putU32 (putU32 o at a) (at + 4) b) (at + 8) c) (at + 12)) (append-nil (u32Bytes d))))
   where
     next : (w : ℕ) (rest o : List ℕ) (at n : ℕ) → at + 4 ≡ n → put o at (u32Bytes w ++ rest) ≡ put (putU32 o at w) n rest
     next w rest o at n e = put-append (u32Bytes w) rest o at ∙ ap (λ (m : ℕ). put (putU32 o at w) m rest) (omega (arith, length-u32 w))
+
+pub four-alike : {a b c d a′ b′ c′ d′ : ℕ} → a ≡ a′ → b ≡ b′ → c ≡ c′ → d ≡ d′ → a ∷ b ∷ c ∷ d ∷ [] ≡ a′ ∷ b′ ∷ c′ ∷ d′ ∷ []
+four-alike p q r s = rw (p, q, r, s)
+
+pub put-twice : (o : List ℕ) (i j : ℕ) {o₁ o₂ v w v′ w′ : List ℕ} → o₁ ≡ put o i (bytesOf v) → o₂ ≡ put o₁ j (bytesOf w) → v ≡ v′ → w ≡ w′
+    → o₂ ≡ put (put o i (bytesOf v′)) j (bytesOf w′)
+put-twice o i j e₁ e₂ p q = rw (e₂, e₁, p, q)
 
 -- ---- the form, part by part
 
@@ -136,20 +154,22 @@ module _ (b : List ℕ) (r : RightHeader b) (y : Bytes b) where
   table-read k l = rw (table-is b k l) (part-read b y (u32At b (tableAt floorTables k .offset)) (wordsIn b k) (λ m. table-inside b r k l m .1))
 
   -- one table more
-  pub table-written : (o out : List ℕ) (k : ℕ) → k < 9 → startOf (partsOf b) (k + 1) ≤ length o → out ≡ over (formUpTo (partsOf b) k) o
-      → put out (startOf (partsOf b) k) (take (4 * wordsIn b k) (drop (u32At b (tableAt floorTables k .offset)) b)) ≡ over (formUpTo (partsOf b) (k + 1)) o
-  table-written o out k l room e =
+  pub table-written : (o out : List ℕ) {out₁ : List ℕ} {at : ℕ} (k : ℕ) → k < 9 → startOf (partsOf b) (k + 1) ≤ length o → out ≡ over (formUpTo (partsOf b) k) o
+      → at ≡ startOf (partsOf b) k → out₁ ≡ put out at (take (4 * wordsIn b k) (drop (u32At b (tableAt floorTables k .offset)) b)) → out₁ ≡ over (formUpTo (partsOf b) (k + 1)) o
+  table-written o out k l room e a w =
       let p = partsOf b in
       let h = sized-of b r in
       let n = part-long b (u32At b (tableAt floorTables k .offset)) (wordsIn b k) (λ m. table-inside b r k l m .1) in
-      rw e (over-put (formUpTo p k) o _ (startOf p k) (up-length p h k) (omega (arith, n, start-next b r k l))
+      rw (w, a, e) (over-put (formUpTo p k) o _ (startOf p k) (up-length p h k) (omega (arith, n, start-next b r k l))
       ∙ ap (λ (d : List ℕ). over d o) (ap (λ (d : List ℕ). formUpTo p k ++ d) (table-read k l) ∙ up-more p h k l))
 
   -- the header
-  pub head-written : (o : List ℕ) → 136 ≤ length o → let f = fieldsOf (partsOf b) in
-      put (put (put (put (put o 0 (take 72 (drop 0 b))) 72 (bytesOf (take 4 f))) 88 (bytesOf (take 4 (drop 4 f)))) 104 (bytesOf (take 4 (drop 8 f)))) 120 (bytesOf (drop 12 f))
-      ≡ over (formUpTo (partsOf b) 0) o
-  head-written o l =
+  pub head-written : (o : List ℕ) {o₁ o₂ o₃ : List ℕ} → 136 ≤ length o → let f = fieldsOf (partsOf b) in
+      o₁ ≡ put o 0 (take 72 (drop 0 b))
+      → o₂ ≡ put (put o₁ 72 (bytesOf (take 4 f))) 88 (bytesOf (take 4 (drop 4 f)))
+      → o₃ ≡ put (put o₂ 104 (bytesOf (take 4 (drop 8 f)))) 120 (bytesOf (drop 12 f))
+      → o₃ ≡ over (formUpTo (partsOf b) 0) o
+  head-written o l e₁ e₂ e₃ =
       let p = partsOf b in
       let f = fieldsOf p in
       let A = bytesOf (take 4 f) in
@@ -167,6 +187,9 @@ module _ (b : List ℕ) (r : RightHeader b) (y : Bytes b) where
       let m3 : length (((H ++ A) ++ B) ++ C) ≡ 120 = length-append ((H ++ A) ++ B) C ∙ omega arith in
       let first : put o 0 H ≡ over H o = ap (λ (x : List ℕ). put x 0 H) (over-none o) ∙ over-put [] o H 0 refl (omega arith) in
       rw (
+        e₃,
+        e₂,
+        e₁,
         first,
         over-put H o A 72 n (omega arith),
         over-put (H ++ A) o B 88 m1 (omega arith),

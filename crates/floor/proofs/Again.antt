@@ -6,10 +6,7 @@ use Prim.Native.Nat.{ℕ, _≤_}
 use native.Mathlib.Omega.{arith}
 use lib.ListN.{length}
 use Rattle.verdict.specs.Verdict.{accepted}
-use Rattle.verdict.specs.Memory.{workSize}
 use Rattle.verdict.specs.declared.Answer.{Answer}
-use Rattle.verdict.specs.declared.Form.{Form}
-use Rattle.verdict.specs.Output.{formAnswer, formMemory}
 use Rattle.wire.specs.Bytes.{Bytes}
 use Rattle.tables.specs.Parts.{Parts, partsOf}
 use Rattle.tables.specs.Plain.{SoundHeader}
@@ -20,7 +17,6 @@ use Rattle.mesh.specs.Mesh.{Meshed}
 use Rattle.nodes.specs.Plain.{SoundNodes}
 use Rattle.tree.specs.Plain.{FloorTree, BoxesHold}
 use Rattle.border.specs.Plain.{SoundBorders}
-use Rattle.floor.specs.declared.Floor.{Floor}
 use Rattle.floor.specs.Reader.{readerVerdict, answerOf, readerAnswer}
 use Rattle.floor.specs.Rewrite.{fixedForm, rewriteVerdict, rewriteAnswer, rewriteMemory}
 use Rattle.floor.specs.Sound.{Sound}

@@ -4,9 +4,9 @@ use mathlib.Core.List.{List}
 use Prim.Native.Nat.{ℕ, _≤_, _<_}
 use native.Mathlib.Omega.{arith}
 use native.Mathlib.Decide.{decLt}
-use lib.ListN.{length, getD, List·getD-eq-default}
+use lib.ListN.{length, List·getD-eq-default}
 use borrow.Author.Tests.{lt-ltb, le-ltb, ne-eqb}
-use Rattle.verdict.specs.Verdict.{accepted, refused, rule, _then_}
+use Rattle.verdict.specs.Verdict.{accepted, refused, rule}
 use Rattle.verdict.specs.Memory.{workSize, clearedTo}
 use Rattle.verdict.specs.declared.Answer.{Answer}
 use Rattle.verdict.specs.declared.Form.{Form}

@@ -11,9 +11,10 @@ use Rattle.nodes.specs.Nodes.{nodesOf}
 use Rattle.nodes.specs.Plain.{Leaf, Inner, SoundNodes}
 use Rattle.tree.specs.Boxes.{boxOf}
 use Rattle.tree.specs.Plain.{FloorTree, BoxesHold}
-use Rattle.border.specs.Halves.{from, to}
+use Rattle.pairs.specs.Halves.{from, to}
+use Rattle.pairs.specs.Plain.{Opposite, Alone, Apart, Paired, Border}
 use Rattle.border.specs.Loops.{loopStart}
-use Rattle.border.specs.Plain.{Opposite, Alone, Apart, Paired, Border, OneEntry, Bordered, Linked, ClosedChain, Looped, SoundBorders}
+use Rattle.border.specs.Plain.{OneEntry, Bordered, Linked, ClosedChain, Looped, SoundBorders}
 
 -- the parts with these header floats, this table of materials and this table of edge entries
 unfoldable pub edited : Parts → List ℕ → List ℕ → List ℕ → Parts

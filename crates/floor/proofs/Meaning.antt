@@ -1,29 +1,27 @@
 -- The reader accepts exactly the sound floors; and what acceptance gives its callers. Assumes nothing.
-use mathlib.Core.Path.{_≡_, refl, sym, ap, _∙_}
+use mathlib.Core.Path.{_≡_, ap, _∙_}
 use mathlib.Core.Bool.{true, not}
 use mathlib.Core.List.{List}
 use Prim.Native.Nat.{ℕ, _≤_}
 use lib.Dec.{ltb}
 use borrow.Author.Tests.{le-ltb, ltb-false, not-false}
-use Rattle.verdict.specs.Verdict.{_then_, accepted}
+use Rattle.verdict.specs.Verdict.{accepted}
 use Rattle.verdict.specs.Memory.{workSize}
 use Rattle.verdict.specs.declared.Answer.{Answer}
 use Rattle.verdict.proofs.Verdict.{passed, unbroken, met, then-both}
-use Rattle.tables.specs.Header.{headerVerdict, RightHeader}
+use Rattle.tables.specs.Header.{RightHeader}
 use Rattle.tables.specs.Parts.{Parts, partsOf, wordPlace}
 use Rattle.tables.proofs.Right.{header-met, header-sound, sound-header}
 use Rattle.tables.proofs.Reading.{sized-of}
-use Rattle.mesh.specs.Mesh.{rules7to10, Meshed}
+use Rattle.mesh.specs.Mesh.{Meshed}
 use Rattle.mesh.proofs.Plain.{mesh-met, met-mesh}
-use Rattle.nodes.specs.Nodes.{rules11to12, nodesOf, faceOf}
+use Rattle.nodes.specs.Nodes.{nodesOf, faceOf}
 use Rattle.nodes.specs.Plain.{SoundNodes, Closed}
 use Rattle.nodes.proofs.Rule12.{nodes-met, met-nodes, kinds-closed}
 use Rattle.tree.specs.Tree.{oneTree, rule13}
-use Rattle.tree.specs.Boxes.{rule14, rules13to14}
+use Rattle.tree.specs.Boxes.{rules13to14}
 use Rattle.tree.proofs.Theorem.{rule13-met, met-rule13}
 use Rattle.tree.proofs.Held.{boxes-met, met-boxes}
-use Rattle.border.specs.Halves.{rules15to16}
-use Rattle.border.specs.Loops.{rules17to19}
 use Rattle.border.proofs.Sound.{borders-sound, sound-borders}
 use Rattle.floor.specs.Groups.{rules7to12, rules15to19, rules13to19, rules1to19}
 use Rattle.floor.specs.Reader.{rule20, readerVerdict}

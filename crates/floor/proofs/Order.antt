@@ -1,11 +1,11 @@
 -- The reader's table by groups: the groups one after another are the table, and the verdict is the first broken rule in order.
 -- Assumes nothing.
-use mathlib.Core.Path.{_≡_, refl, sym, ap, _∙_}
-use mathlib.Core.List.{List, [], _∷_}
+use mathlib.Core.Path.{_≡_, sym, ap, _∙_}
+use mathlib.Core.List.{List}
 use mathlib.Core.Bool.{not}
 use Prim.Native.Nat.{ℕ}
 use lib.Dec.{eqb}
-use Rattle.verdict.specs.Verdict.{_then_, accepted, inOrder, FirstBroken}
+use Rattle.verdict.specs.Verdict.{_then_, inOrder, FirstBroken}
 use Rattle.verdict.specs.declared.Answer.{Answer}
 use Rattle.verdict.proofs.Verdict.{then-next, then-stop, then-assoc, then-last, Proper, rule-proper, each-proper, then-proper, first-broken, first-only}
 use Rattle.tables.specs.Header.{headerVerdict, rules2to6}
@@ -13,7 +13,7 @@ use Rattle.tables.specs.Parts.{Parts, partsOf}
 use Rattle.mesh.specs.Mesh.{rules7to10}
 use Rattle.nodes.specs.Nodes.{rules11to12}
 use Rattle.tree.specs.Boxes.{rules13to14}
-use Rattle.border.specs.Halves.{rules15to16}
+use Rattle.pairs.specs.Halves.{rules15to16}
 use Rattle.border.specs.Loops.{wrongLoop, loopStart, rule19, rules17to19}
 use Rattle.floor.specs.Groups.{rules7to12, rules15to19, rules13to19, rules1to19}
 use Rattle.floor.specs.Reader.{rule20, readerVerdict, readerRules}

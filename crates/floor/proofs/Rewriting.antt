@@ -1,13 +1,11 @@
 -- The rewriter's verdict: where it accepts, the floor is accepted and the output has room. Assumes nothing.
-use mathlib.Core.Path.{_≡_, refl, sym, ap, _∙_}
+use mathlib.Core.Path.{_≡_, _∙_}
 use mathlib.Core.List.{List}
 use Prim.Native.Nat.{ℕ, _≤_}
-use native.Mathlib.Omega.{arith}
 use lib.ListN.{length}
 use lib.Dec.{ltb}
 use borrow.Author.Tests.{ltb-false, le-ltb}
-use Rattle.verdict.specs.Verdict.{_then_, rule, accepted}
-use Rattle.verdict.specs.declared.Answer.{Answer}
+use Rattle.verdict.specs.Verdict.{rule, accepted}
 use Rattle.verdict.proofs.Verdict.{passed, unbroken, then-next, then-both, met, rule-proper}
 use Rattle.floor.specs.Reader.{readerVerdict}
 use Rattle.floor.specs.Rewrite.{fixedForm, rewriteVerdict}

@@ -9,7 +9,7 @@ use Rattle.tables.specs.Parts.{Parts, partsOf, wordPlace}
 use Rattle.mesh.specs.Mesh.{rules7to10}
 use Rattle.nodes.specs.Nodes.{rules11to12}
 use Rattle.tree.specs.Boxes.{rules13to14}
-use Rattle.border.specs.Halves.{rules15to16}
+use Rattle.pairs.specs.Halves.{rules15to16}
 use Rattle.border.specs.Loops.{rules17to19}
 
 unfoldable pub rules7to12 : (ℕ → ℕ → ℕ) → Parts → Answer

@@ -17,7 +17,7 @@ use Rattle.mesh.specs.Faces.{rule8, rule9, rule10, walkable}
 use Rattle.nodes.specs.Nodes.{rule11, rule12}
 use Rattle.tree.specs.Tree.{rule13}
 use Rattle.tree.specs.Boxes.{rule14}
-use Rattle.border.specs.Halves.{rule15, rule16}
+use Rattle.pairs.specs.Halves.{rule15, rule16}
 use Rattle.border.specs.Loops.{rule17, rule18, rule19}
 use Rattle.floor.specs.declared.Floor.{Floor}
 

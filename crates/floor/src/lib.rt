@@ -40,7 +40,7 @@ fn borders_verdict(bytes: &[u8], work: &mut [u8]) -> Answer
     ensures answer { λ r. ⌜ r ≡ rules15to19 (partsOf (now (bytes .entry))) ⌝ }
     ensures memory { λ _. ⌜ now (work .exit) ≡ clearedTo workSize (now (work .entry)) ⌝ }
 {
-    let pairs = border::pairs_verdict(bytes, work);
+    let pairs = pairs::pairs_verdict(bytes, work);
     if pairs.number != 0 {
         return pairs;
     }

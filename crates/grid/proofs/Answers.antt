@@ -77,6 +77,6 @@ pub bits-kept : (b : ℕ) (n : ℤ) (r : Nudged) → r ≡ nudgedAt b n → mayN
 unfolding nudgedAt
 bits-kept b n r e h = ap (λ (z : Nudged). z .bits) e ∙ simp h
 
--- what is_within answers, as the bound that in_triangle asks for
+-- what is_within answers, as a bound
 pub within-bound : (k : ℕ) (z : ℤ) → within k z ≡ true → Within k z
 within-bound k z h = record { le = leb-true (natAbs z) k h }

@@ -5,8 +5,4 @@ pub mod Patterns
 pub mod Finite
 pub mod Nudges
 pub mod Answers
-pub mod Triangle
 pub mod Boxes
-pub mod Crosses
-pub mod Weights
-pub mod Corners

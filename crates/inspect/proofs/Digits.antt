@@ -1,6 +1,6 @@
 -- The powers of ten in code; and a number of 32 bits reads back from its digits. Assumes nothing.
-use mathlib.Core.Path.{_≡_, refl, sym, ap, _∙_}
-use mathlib.Core.Bool.{Bool, true, false}
+use mathlib.Core.Path.{_≡_, refl, ap}
+use mathlib.Core.Bool.{true}
 use mathlib.Core.List.{List, [], _∷_}
 use Prim.Native.Nat.{ℕ, _+_, _^_, _<_, _≤_}
 use native.Mathlib.Omega.{arith}
@@ -13,7 +13,6 @@ use Rattle.verdict.specs.Lowest.{lowest, anyUnder, allUnder}
 use Rattle.verdict.proofs.Bools.{decided}
 use Rattle.verdict.proofs.Lowest.{all-true, lowest-is}
 use Rattle.number.specs.Count.{value}
-use Rattle.number.specs.Number.{fixed}
 use Rattle.number.proofs.NumberTrip.{fixed-value}
 use Rattle.inspect.specs.Line.{hasUpTo, digitCount, decimal}
 

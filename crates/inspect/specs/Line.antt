@@ -7,7 +7,7 @@ use lib.Dec.{ltb, eqb}
 use lib.ListN.{length}
 use Rattle.verdict.specs.Lowest.{lowest}
 use Rattle.number.specs.Number.{fixed}
-use Rattle.floor.specs.Reader.{readerAnswer}
+use Rattle.floor.specs.Reader.{readerAnswer, readerMemory}
 use Rattle.floor.specs.declared.Floor.{Floor}
 
 -- n has at most k + 1 digits
@@ -64,3 +64,7 @@ lineOf r = cond (eqb (r .number) 0) (acceptedLine r) (refusedLine r)
 -- the line of a file, with so much work memory
 unfoldable pub fileLine : List ℕ → ℕ → List ℕ
 fileLine b room = cond (ltb 65536 (length b)) (tooLong ++ lineFeed) (lineOf (readerAnswer b room))
+
+-- the work memory behind it: a file that is too long is not read
+unfoldable pub fileMemory : List ℕ → List ℕ → List ℕ
+fileMemory b work = cond (ltb 65536 (length b)) work (readerMemory work)

@@ -9,7 +9,7 @@ ghost use Prim.Native.Nat.{_+_, _<_, _≤_};
 ghost use lib.ListN.{length};
 ghost use Rattle.verdict.specs.Lowest.{lowest};
 ghost use Rattle.text.specs.Write.{Wrote};
-ghost use Rattle.inspect.specs.Line.{hasUpTo, decimal, named, lineFeed, tooLong, acceptedLine, refusedLine, lineOf, fileLine};
+ghost use Rattle.inspect.specs.Line.{hasUpTo, decimal, named, lineFeed, tooLong, acceptedLine, refusedLine, lineOf, fileLine, fileMemory};
 
 // 10, 100, .., 10 to the ninth.
 const POWERS: [u32; 9] = [
@@ -101,6 +101,7 @@ fn put_too_long(out: &mut [u8]) -> usize
 // The line of a file.
 fn file_line(bytes: &[u8], work: &mut [u8], out: &mut [u8]) -> usize
     ensures line { λ e. ⌜ Wrote (now (out .entry)) (now (out .exit)) 0 e (fileLine (now (bytes .entry)) (length (now (work .entry)))) × (e ≤ 256) ⌝ }
+    ensures memory { λ _. ⌜ now (work .exit) ≡ fileMemory (now (bytes .entry)) (now (work .entry)) ⌝ }
 {
     if 65536 < bytes.len() {
         return put_too_long(out);

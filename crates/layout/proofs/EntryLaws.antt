@@ -1,23 +1,22 @@
 -- The entries of a section, one after the other, and the line that opens a section: what is accepted is told, and what is told is accepted.
 -- Assumes nothing.
 use mathlib.Core.Path.{_≡_, refl, sym, ap, _∙_}
-use mathlib.Core.Bool.{Bool, true, false, cond, not, _&&_, _||_}
+use mathlib.Core.Bool.{Bool, true, false, cond}
 use mathlib.Core.List.{List, [], _∷_, _++_, append-assoc, append-nil}
 use Prim.Native.Nat.{ℕ, zero, suc, _+_, _-_, _≤_, _<_}
 use native.Mathlib.Omega.{arith}
-use lib.Dec.{eqb, leb, ltb}
+use lib.Dec.{eqb, ltb}
 use lib.ListN.{length}
-use borrow.Author.Tests.{lt-ltb, le-ltb, le-leb, lt-leb, eq-eqb, ne-eqb}
-use Rattle.verdict.proofs.Bools.{test, and-true}
-use Rattle.text.specs.Class.{within}
+use borrow.Author.Tests.{lt-ltb, le-leb, lt-leb, eq-eqb}
+use Rattle.verdict.proofs.Bools.{test}
 use Rattle.text.specs.Name.{same}
 use Rattle.text.specs.Reading.{Word, Line, nth}
 use Rattle.text.proofs.NameLaws.{same-true}
-use Rattle.number.specs.Count.{value, isCount}
+use Rattle.number.specs.Count.{value}
 use Rattle.number.proofs.DecimalLaws.{decimal-ok}
-use Rattle.layout.specs.Grammar.{Typed, State, sectionOf, follows, opens, withEntry, namesOf, known, placed, entryFault, wordsOf, countRight, openFault, fault, next, beginlayout, roomcount, trackcount, obstaclecount, doorhookcount, donelayout}
+use Rattle.layout.specs.Grammar.{Typed, State, sectionOf, follows, opens, withEntry, namesOf, known, placed, entryFault, openFault, fault, next, beginlayout, roomcount, trackcount, obstaclecount, doorhookcount, donelayout}
 use Rattle.layout.specs.Plain.{IsEntry}
-use Rattle.layout.proofs.EachLaws.{Each, Apart, names-more, apart-before}
+use Rattle.layout.proofs.EachLaws.{Each, Apart, apart-before}
 use Rattle.layout.proofs.GoodLaws.{entry-good}
 use Rattle.layout.proofs.Accepts.{Accepts, accepts-next, next-accepts, end-accepts, Full}
 

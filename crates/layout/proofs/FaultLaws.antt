@@ -1,17 +1,17 @@
 -- The faults of an entry and of a line, at the values that the code has in hand. Assumes nothing.
 use mathlib.Core.Path.{_≡_, refl, sym, ap, _∙_}
-use mathlib.Core.Bool.{Bool, true, false, cond, not, _&&_}
+use mathlib.Core.Bool.{Bool, true, false, cond}
 use mathlib.Core.List.{List, [], _∷_}
-use Prim.Native.Nat.{ℕ, suc, _+_, _≤_, _<_}
+use Prim.Native.Nat.{ℕ, _≤_, _<_}
 use native.Mathlib.Omega.{arith}
-use lib.Dec.{eqb, ltb}
+use lib.Dec.{eqb}
 use lib.ListN.{length}
 use borrow.Author.Tests.{eq-eqb, ne-eqb, lt-ltb, le-ltb}
 use Rattle.text.specs.Scan.{words, lineAt}
 use Rattle.text.specs.Name.{isName}
 use Rattle.text.specs.Reading.{Word, Line, nth}
 use Rattle.layout.specs.Grammar.{State, opens, placed, openFault, entryFault, fault, namesOf, known}
-use Rattle.layout.specs.Rewrite.{knownBut}
+use Rattle.layout.specs.Grammar.{knownBut}
 use Rattle.layout.specs.Starts.{entryAt}
 use Rattle.layout.proofs.EachLaws.{length-names}
 use Rattle.layout.proofs.HeldLaws.{known-all}

@@ -1,16 +1,15 @@
 -- What holds of a reading at each line: the entries so far are right, no two rooms have one name, and no section has more than 64.
 -- Assumes nothing.
-use mathlib.Core.Path.{_≡_, refl, sym, ap, _∙_}
+use mathlib.Core.Path.{_≡_, refl, ap, _∙_}
 use mathlib.Core.Bool.{Bool, true, false, cond, not, _&&_, _||_}
 use mathlib.Core.List.{List, [], _∷_, _++_}
-use Prim.Native.Nat.{ℕ, zero, suc, _+_, _-_, _≤_, _<_}
+use Prim.Native.Nat.{ℕ, suc, _+_, _-_, _≤_, _<_}
 use native.Mathlib.Omega.{arith}
 use native.Mathlib.Decide.{ℕ-discrete}
 use lib.Dec.{eqb, leb, ltb}
 use lib.ListN.{length, length-append}
 use borrow.Author.Tests.{eqb-true, eq-eqb, leb-true, ltb-true, not-false}
-use Rattle.verdict.specs.Verdict.{accepted}
-use Rattle.verdict.proofs.Bools.{clash, test, decided, and-true, and-false, or-false, not-not}
+use Rattle.verdict.proofs.Bools.{clash, test, decided, and-true, and-false, or-false}
 use Rattle.text.specs.Class.{within}
 use Rattle.text.specs.Name.{isName}
 use Rattle.number.specs.Count.{value, isCount}
@@ -18,7 +17,7 @@ use Rattle.number.specs.Number.{numberOf}
 use Rattle.number.proofs.CountLaws.{count-within}
 use Rattle.number.proofs.DecimalLaws.{read-decimal}
 use Rattle.text.specs.Reading.{Word, Line, nth}
-use Rattle.layout.specs.Grammar.{Typed, nothing, State, start, Reading, stopped, sectionOf, follows, opens, withEntry, namesOf, known, placed, entryFault, wordsOf, countRight, openFault, fault, next, finish, readFrom}
+use Rattle.layout.specs.Grammar.{State, start, sectionOf, follows, opens, withEntry, namesOf, known, placed, entryFault, wordsOf, countRight, openFault, fault, next}
 use Rattle.layout.specs.Plain.{IsEntry}
 use Rattle.layout.proofs.EachLaws.{Each, each-more, Apart, apart-none, apart-more, names-more}
 

@@ -1,28 +1,22 @@
 -- The entries that the code keeps by their starts: how many, which, and the state behind a line. Assumes nothing.
 use mathlib.Core.Path.{_≡_, refl, sym, ap, _∙_}
-use mathlib.Core.Logic.{_⊎_, inl, inr, ⊎-elim}
-use mathlib.Core.Bool.{Bool, true, false, cond, not, _&&_}
-use mathlib.Core.List.{List, [], _∷_, _++_, map, map-append}
-use Prim.Native.Nat.{ℕ, zero, suc, _+_, _-_, _≤_, _<_}
-use native.Mathlib.Nat.{add-zero}
-use native.Mathlib.Numerals.{add-one}
+use mathlib.Core.Bool.{Bool, true, false, not, _&&_}
+use mathlib.Core.List.{List, [], _∷_}
+use Prim.Native.Nat.{ℕ, _+_, _-_, _≤_, _<_}
 use native.Mathlib.Omega.{arith}
-use native.Mathlib.Decide.{ℕ-discrete}
-use lib.Dec.{eqb, ltb}
+use lib.Dec.{eqb}
 use lib.ListN.{length, getD, take, drop, set, length-map, length-drop}
-use lib.Seq.{take-suc-set, length-take-le, drop-set-add, drop-set-lt, take-set-le, getD-take, getD-drop}
+use lib.Seq.{length-take-le, getD-take, getD-drop}
 use borrow.Author.Tests.{eq-eqb, ne-eqb, lt-ltb, le-ltb}
-use Rattle.verdict.specs.Lowest.{lowest, anyUnder}
-use Rattle.verdict.proofs.Bools.{test, decided, clash}
+use Rattle.verdict.specs.Lowest.{lowest}
 use Rattle.verdict.proofs.Lists.{map-at}
 use Rattle.verdict.proofs.Lowest.{any-hit, any-none, any-same}
 use Rattle.text.specs.Scan.{words, lineAt}
 use Rattle.text.specs.Name.{isName, sameName}
-use Rattle.number.specs.Count.{value, isCount}
 use Rattle.layout.specs.declared.Progress.{Progress}
 use Rattle.text.specs.Reading.{Word, Line, nth}
 use Rattle.layout.specs.Grammar.{namesOf, known, opens}
-use Rattle.layout.specs.Rewrite.{knownBut}
+use Rattle.layout.specs.Grammar.{knownBut}
 use Rattle.layout.specs.Starts.{entryAt, held, Named, countIn, entered, movedTo, slotOf, kept}
 use Rattle.layout.proofs.EachLaws.{Each, each-at, length-names, names-at}
 use Rattle.layout.specs.Plain.{IsEntry}

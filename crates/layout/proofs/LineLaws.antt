@@ -1,20 +1,19 @@
 -- A line's words and faults, at the values that the code has in hand. Assumes nothing.
-use mathlib.Core.Path.{_≡_, refl, sym, ap, _∙_}
-use mathlib.Core.Bool.{Bool, true, false, cond, not, _&&_, _||_}
-use mathlib.Core.List.{List, [], _∷_}
-use Prim.Native.Nat.{ℕ, zero, suc, _+_, _-_, _≤_, _<_}
+use mathlib.Core.Path.{_≡_, refl, sym, _∙_}
+use mathlib.Core.Bool.{Bool, true, false, cond, not}
+use Prim.Native.Nat.{ℕ, suc, _-_, _≤_, _<_}
 use native.Mathlib.Omega.{arith}
-use lib.Dec.{eqb, leb, ltb}
+use lib.Dec.{eqb, ltb}
 use lib.ListN.{length}
-use borrow.Author.Tests.{eqb-true, eq-eqb, ne-eqb, le-leb, lt-leb, lt-ltb, le-ltb}
-use Rattle.verdict.proofs.Bools.{clash, test, same-test}
+use borrow.Author.Tests.{eqb-true, eq-eqb, ne-eqb, le-leb, lt-leb}
+use Rattle.verdict.proofs.Bools.{same-test}
 use Rattle.number.specs.declared.Num.{Num}
 use Rattle.text.specs.Class.{within}
-use Rattle.text.specs.Name.{same, isName}
+use Rattle.text.specs.Name.{same}
 use Rattle.number.specs.Count.{value, isCount}
 use Rattle.number.specs.Number.{numberOf}
 use Rattle.text.specs.Reading.{Word, Line, nth}
-use Rattle.layout.specs.Grammar.{State, sectionOf, follows, opens, placed, wordsOf, countRight, openFault, entryFault, fault, namesOf, known, beginlayout, roomcount, trackcount, obstaclecount, doorhookcount, donelayout}
+use Rattle.layout.specs.Grammar.{sectionOf, follows, opens, placed, wordsOf, countRight, openFault, beginlayout, roomcount, trackcount, obstaclecount, doorhookcount, donelayout}
 use Rattle.layout.specs.Starts.{countIn}
 
 -- ---- keywords

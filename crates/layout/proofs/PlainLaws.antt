@@ -1,29 +1,27 @@
 -- A layout is accepted exactly where its lines are those that the paper tells, and with their entries. Assumes nothing.
 use mathlib.Core.Path.{_≡_, refl, sym, ap, _∙_}
-use mathlib.Core.Logic.{inl, inr}
-use mathlib.Core.Bool.{Bool, true, false, cond, _&&_, _||_}
-use mathlib.Core.List.{List, [], _∷_, _++_}
-use Prim.Native.Nat.{ℕ, suc, _+_, _≤_, _<_}
+use mathlib.Core.Bool.{Bool, true, false, cond}
+use mathlib.Core.List.{List, [], _∷_}
+use Prim.Native.Nat.{ℕ, suc, _≤_, _<_}
 use native.Mathlib.Omega.{arith}
 use native.Mathlib.Decide.{ℕ-discrete}
-use lib.Dec.{eqb, leb, ltb}
+use lib.Dec.{leb, ltb}
 use lib.ListN.{length, getD}
 use borrow.Author.Tests.{eqb-true, lt-leb}
 use Rattle.verdict.specs.declared.Answer.{Answer}
 use Rattle.verdict.specs.Verdict.{accepted}
 use Rattle.verdict.proofs.Bools.{clash, test, decided, and-true}
-use Rattle.text.specs.Class.{within}
 use Rattle.text.specs.Name.{same, sameName}
 use Rattle.text.specs.Sound.{rules31to32}
 use Rattle.text.specs.Written.{wordLines}
 use Rattle.text.specs.Reading.{Word, Line, nth, spoken}
 use Rattle.number.specs.Count.{value}
-use Rattle.layout.specs.Grammar.{Typed, nothing, State, start, Reading, sectionOf, follows, opens, namesOf, wordsOf, openFault, readFrom, beginlayout, roomcount, trackcount, obstaclecount, doorhookcount, donelayout}
+use Rattle.layout.specs.Grammar.{Typed, nothing, start, Reading, sectionOf, follows, opens, namesOf, wordsOf, openFault, beginlayout, roomcount, trackcount, obstaclecount, doorhookcount, donelayout}
 use Rattle.layout.specs.Layout.{grammar, layoutVerdict, layoutOf}
 use Rattle.layout.specs.Plain.{Section, Optional, Spelled}
 use Rattle.layout.proofs.EachLaws.{Each, Apart, length-names, names-at}
 use Rattle.layout.proofs.GoodLaws.{open-some, open-words, opens-later, good-start}
-use Rattle.layout.proofs.ReadLaws.{GoodTyped, read-sane, layout-sound, verdict-sound, verdict-unsound, grammar-sane}
+use Rattle.layout.proofs.ReadLaws.{read-sane, layout-sound, verdict-sound, verdict-unsound, grammar-sane}
 use Rattle.layout.proofs.Accepts.{with, Accepts, read-any, accepts-end, end-accepts, accepts-spoken, spoken-accepts, spoken-full, Full}
 use Rattle.layout.proofs.EntryLaws.{at, withEntries, keyOf, section-key, opens-is, opens-by, open-accepts, accepts-open}
 use Rattle.layout.proofs.SectionLaws.{section-read, section-told, Cut, optional-told, optional-read}

@@ -1,22 +1,22 @@
 -- Reading line by line, and what every layout that was read is: right entries, no two rooms of one name, at most 64 of a kind.
 -- Assumes nothing.
 use mathlib.Core.Path.{_≡_, refl, sym, ap, _∙_}
-use mathlib.Core.Bool.{Bool, true, false, cond}
+use mathlib.Core.Bool.{true, false}
 use mathlib.Core.List.{List, [], _∷_}
-use Prim.Native.Nat.{ℕ, zero, suc, _≤_}
+use Prim.Native.Nat.{ℕ, suc, _≤_}
 use native.Mathlib.Omega.{arith}
 use lib.Dec.{eqb}
 use lib.ListN.{length}
 use borrow.Author.Tests.{eqb-true, eqb-false, eq-eqb, ne-eqb}
-use Rattle.verdict.specs.Verdict.{accepted, _then_}
-use Rattle.verdict.proofs.Bools.{clash, test}
-use Rattle.verdict.proofs.Verdict.{passed, then-next, then-stop, Proper, then-proper, rule-proper, each-proper}
+use Rattle.verdict.specs.Verdict.{accepted}
+use Rattle.verdict.proofs.Bools.{test}
+use Rattle.verdict.proofs.Verdict.{then-next, then-stop, Proper, then-proper, rule-proper, each-proper}
 use Rattle.text.proofs.ReadingLaws.{read-next, read-stop, read-end}
 use Rattle.text.specs.Sound.{rules31to32, rule31, rule32}
-use Rattle.text.specs.Reading.{Word, Line, nth}
+use Rattle.text.specs.Reading.{Line}
 use Rattle.layout.specs.Grammar.{Typed, nothing, State, start, Reading, stopped, namesOf, fault, next, finish, layoutGrammar, readFrom}
 use Rattle.layout.specs.Layout.{grammar, layoutVerdict, layoutOf}
-use Rattle.layout.proofs.EachLaws.{Each, Apart, apart-none}
+use Rattle.layout.proofs.EachLaws.{Each, Apart}
 use Rattle.layout.specs.Plain.{IsEntry}
 use Rattle.layout.proofs.GoodLaws.{Good, good-start, good-next}
 

@@ -1,26 +1,23 @@
 -- A text's lines from a place on, read one after the other. Assumes nothing.
 use mathlib.Core.Path.{_≡_, refl, sym, ap, _∙_}
-use mathlib.Core.Bool.{Bool, true, false, cond}
-use mathlib.Core.List.{List, [], _∷_, map}
-use Prim.Native.Nat.{ℕ, zero, suc, _+_, _≤_, _<_}
-use native.Mathlib.Numerals.{add-one}
+use mathlib.Core.List.{List}
+use Prim.Native.Nat.{ℕ, _+_, _<_}
 use native.Mathlib.Omega.{arith}
-use lib.Dec.{eqb, ltb}
-use lib.ListN.{length, drop, take, length-set}
+use lib.Dec.{ltb}
+use lib.ListN.{length, drop, length-set}
 use borrow.Author.Tests.{eq-eqb, ne-eqb}
 use Rattle.verdict.specs.declared.Answer.{Answer}
-use Rattle.verdict.specs.Verdict.{accepted, refused}
+use Rattle.verdict.specs.Verdict.{accepted}
 use Rattle.verdict.proofs.Bools.{test}
 use Rattle.text.specs.Class.{isEnd}
-use Rattle.text.specs.Scan.{run, apart, words, lines, lineAt}
+use Rattle.text.specs.Scan.{run, apart, words, lineAt}
 use Rattle.text.specs.Sound.{rules31to32}
 use Rattle.text.specs.Written.{wordLines}
 use Rattle.text.proofs.ReadingLaws.{rest, scan-next, scan-stop}
 use Rattle.layout.specs.declared.Progress.{Progress}
 use Rattle.layout.specs.declared.Layout.{Layout}
-use Rattle.text.specs.Reading.{Line}
-use Rattle.layout.specs.Grammar.{Typed, nothing, State, start, Reading, stopped, namesOf, fault, next, finish, layoutGrammar, readFrom}
-use Rattle.layout.specs.Layout.{grammar, layoutVerdict, layoutOf}
+use Rattle.layout.specs.Grammar.{nothing, State, start, Reading, stopped, fault, finish, layoutGrammar, readFrom}
+use Rattle.layout.specs.Layout.{grammar, layoutVerdict}
 use Rattle.layout.specs.Starts.{entryAt, held, stateOf, movedTo, slotOf, kept, Named, Held, Found, Answered}
 use Rattle.layout.proofs.GoodLaws.{Good, good-start, good-next}
 use Rattle.layout.proofs.HeldLaws.{rooms-named}

@@ -1,20 +1,20 @@
 -- A section with its count and entries, and one that may be left out: what is accepted is told, and what is told is accepted.
 -- Assumes nothing.
 use mathlib.Core.Path.{_≡_, refl, sym, ap, _∙_}
-use mathlib.Core.Logic.{_⊎_, inl, inr}
-use mathlib.Core.Bool.{Bool, true, false, cond, not, _&&_, _||_}
-use mathlib.Core.List.{List, [], _∷_, _++_, append-assoc, append-nil}
-use Prim.Native.Nat.{ℕ, zero, suc, _+_, _-_, _≤_, _<_}
+use mathlib.Core.Logic.{inl, inr}
+use mathlib.Core.Bool.{Bool, true, false, not, _||_}
+use mathlib.Core.List.{List, [], _∷_, _++_}
+use Prim.Native.Nat.{ℕ, suc, _+_, _-_, _≤_, _<_}
 use native.Mathlib.Omega.{arith}
 use native.Mathlib.Decide.{ℕ-discrete}
-use lib.Dec.{eqb, leb, ltb}
-use lib.ListN.{length, getD}
+use lib.Dec.{eqb}
+use lib.ListN.{length}
 use borrow.Author.Tests.{le-leb, eqb-true, ne-eqb}
-use Rattle.verdict.proofs.Bools.{decided, and-true}
+use Rattle.verdict.proofs.Bools.{decided}
 use Rattle.text.specs.Class.{within}
 use Rattle.text.specs.Reading.{Word, Line, nth}
 use Rattle.number.specs.Count.{value, isCount}
-use Rattle.layout.specs.Grammar.{Typed, State, sectionOf, follows, opens, namesOf, wordsOf, countRight, openFault}
+use Rattle.layout.specs.Grammar.{Typed, sectionOf, opens, wordsOf, countRight, openFault}
 use Rattle.layout.specs.Plain.{IsEntry, Section, Optional}
 use Rattle.layout.proofs.EachLaws.{Each, each-at, each-of}
 use Rattle.layout.proofs.GoodLaws.{open-some, open-words, open-count, count-right, opens-later, hooks-none}

@@ -1,22 +1,22 @@
 -- One line more: the starts that the code keeps stand for the grammar's next state. Assumes nothing.
-use mathlib.Core.Path.{_≡_, refl, sym, ap, _∙_}
+use mathlib.Core.Path.{_≡_, refl, ap, _∙_}
 use mathlib.Core.Logic.{_⊎_, inl, inr, ⊎-elim}
-use mathlib.Core.Bool.{Bool, true, false, cond}
-use mathlib.Core.List.{List, [], _∷_, _++_, map, map-append}
-use Prim.Native.Nat.{ℕ, zero, suc, _+_, _-_, _≤_, _<_}
+use mathlib.Core.Bool.{true, false, cond}
+use mathlib.Core.List.{List, [], _∷_, _++_, map-append}
+use Prim.Native.Nat.{ℕ, _+_, _-_, _≤_, _<_}
 use native.Mathlib.Numerals.{add-one}
 use native.Mathlib.Omega.{arith}
 use native.Mathlib.Decide.{ℕ-discrete}
 use lib.Dec.{eqb, ltb}
 use lib.ListN.{length, take, drop, set, length-drop}
 use lib.Seq.{take-suc-set, drop-set-add, drop-set-lt, take-set-le}
-use borrow.Author.Tests.{eqb-true, eqb-false, ltb-true, ltb-false}
+use borrow.Author.Tests.{eqb-true, ltb-true}
 use Rattle.verdict.proofs.Bools.{test, decided}
 use Rattle.text.specs.Class.{within}
 use Rattle.number.specs.Count.{value, isCount}
 use Rattle.layout.specs.declared.Progress.{Progress}
 use Rattle.text.specs.Reading.{Word, Line, nth}
-use Rattle.layout.specs.Grammar.{State, withEntry, opens, wordsOf, openFault, fault, next}
+use Rattle.layout.specs.Grammar.{withEntry, opens, wordsOf, openFault, fault, next}
 use Rattle.layout.specs.Starts.{entryAt, held, stateOf, countIn, entered, movedTo, slotOf, kept}
 use Rattle.layout.proofs.GoodLaws.{Good, open-words, open-count, count-right}
 use Rattle.layout.proofs.HeldLaws.{held-long, slot-room, slot-track, slot-obstacle}

@@ -75,6 +75,10 @@ namesOf es = map (λ (e : Line). nth e 0) es
 unfoldable pub known : Word → List Word → Bool
 known w names = anyUnder (length names) (λ j. sameName w (getD names j []))
 
+-- another room, not i, has the name; letter case is ignored
+unfoldable pub knownBut : ℕ → Word → List Word → Bool
+knownBut i w names = anyUnder (length names) (λ j. not (eqb j i) && sameName w (getD names j []))
+
 -- ---- a line: the first of its faults, 0 for none
 
 -- where the reader is: the section, how many of its entries are still to come, and the entries so far

@@ -1,5 +1,4 @@
 pub mod Grammar
 pub mod Layout
 pub mod Plain
-pub mod Rewrite
 pub mod Starts

@@ -1,8 +1,8 @@
 -- What the code keeps of a layout: the places where its entries' lines start, rooms from 0 on, tracks from 64 on, obstacles from 128 on.
 -- Names and numbers are read again from the text. Definitions only.
 use mathlib.Core.Path.{_≡_}
-use Prim.Native.Nat.{ℕ, suc, _+_, _-_, _≤_, _<_}
-use mathlib.Core.Bool.{Bool, true, cond}
+use Prim.Native.Nat.{ℕ, _+_, _-_, _≤_, _<_}
+use mathlib.Core.Bool.{true, cond}
 use mathlib.Core.List.{List, [], _∷_, map}
 use lib.ListN.{length, take, drop, set, getD}
 use lib.Dec.{ltb, eqb}

@@ -1,5 +1,6 @@
 // A line of a layout: what is wrong with it, and what it adds to what the reader keeps.
 use super::Progress;
+use super::is_known;
 use text::is_name;
 use text::line_at;
 use text::word;
@@ -12,10 +13,8 @@ ghost use lib.Dec.{eqb};
 ghost use Rattle.text.specs.Scan.{words};
 ghost use Rattle.text.specs.Name.{isName, sameName};
 ghost use Rattle.text.specs.Reading.{nth};
-ghost use Rattle.layout.specs.Grammar.{sectionOf, follows, opens, placed, wordsOf, countRight, openFault, entryFault, fault, namesOf};
-ghost use Rattle.layout.specs.Layout.{section};
-ghost use Rattle.layout.specs.Rewrite.{knownBut};
-ghost use Rattle.layout.specs.Starts.{entryAt, held, stateOf, countIn, entered, movedTo, slotOf, kept, Named};
+ghost use Rattle.layout.specs.Grammar.{sectionOf, follows, opens, placed, wordsOf, countRight, openFault, entryFault, fault};
+ghost use Rattle.layout.specs.Starts.{entryAt, stateOf, countIn, entered, movedTo, slotOf, kept, Named};
 
 // The section that a keyword opens, 0 for no keyword.
 pub(crate) fn section_of(w: &[u8]) -> usize
@@ -147,21 +146,6 @@ pub(crate) fn is_named(s: &[u8], starts: &[usize], j: usize, but: usize, w: &[u8
         return false;
     }
     text::same_name(w, word(line_at(s, starts[j]), 0))
-}
-
-// One of the first n entries, another than `but`, has this name.
-pub(crate) fn is_known(s: &[u8], starts: &[usize], n: usize, but: usize, w: &[u8]) -> bool
-    requires { ⌜ (n ≤ length (now starts)) × ((isName (now w) ≡ true) × Named (now s) (now starts) n) ⌝ }
-    ensures { λ r. ⌜ r ≡ knownBut but (now (w .entry)) (namesOf (held (now (s .entry)) (now (starts .entry)) 0 n)) ⌝ }
-{
-    let mut j = 0;
-    while j < n {
-        if is_named(s, starts, j, but, w) {
-            return true;
-        }
-        j += 1;
-    }
-    false
 }
 
 // What is wrong with an entry. Only rooms are checked for 37.

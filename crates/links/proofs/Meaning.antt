@@ -1,10 +1,9 @@
 -- The link check lets through exactly what `Joined` says; and a test at a time what one transition is. Assumes nothing.
 use mathlib.Core.Path.{_≡_, refl, sym, ap, _∙_}
 use mathlib.Core.Logic.{_⊎_, inl, inr}
-use mathlib.Core.Bool.{Bool, true, false, not}
+use mathlib.Core.Bool.{false}
 use mathlib.Core.List.{List}
-use Prim.Native.Nat.{ℕ, _<_, _≤_}
-use native.Mathlib.Omega.{arith}
+use Prim.Native.Nat.{ℕ, _<_}
 use lib.ListN.{length}
 use lib.Dec.{leb, eqb}
 use borrow.Author.Tests.{eq-eqb, ne-eqb, eqb-true, leb-false, lt-leb}
@@ -16,8 +15,8 @@ use Rattle.tables.specs.Parts.{none32, Parts, partsOf, transition}
 use Rattle.floor.specs.Reader.{readerVerdict}
 use Rattle.floor.proofs.Meaning.{accepted-sound, sound-accepted, room-is-enough}
 use Rattle.layout.specs.Layout.{layoutVerdict}
-use Rattle.layout.specs.Rewrite.{roomNames, roomsOf}
-use Rattle.layout.specs.declared.Rooms.{Rooms}
+use Rattle.rooms.specs.Rooms.{roomNames, roomsOf}
+use Rattle.rooms.specs.declared.Rooms.{Rooms}
 use Rattle.layout.proofs.ReadLaws.{verdict-proper}
 use Rattle.links.specs.Links.{astray, rule42, linkVerdict}
 use Rattle.links.specs.Plain.{Joined}

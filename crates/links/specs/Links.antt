@@ -9,7 +9,7 @@ use Rattle.verdict.specs.declared.Answer.{Answer}
 use Rattle.tables.specs.Parts.{none32, Parts, partsOf, transition}
 use Rattle.floor.specs.Reader.{readerVerdict}
 use Rattle.layout.specs.Layout.{layoutVerdict}
-use Rattle.layout.specs.Rewrite.{roomNames}
+use Rattle.rooms.specs.Rooms.{roomNames}
 
 -- the transition of edge entry i is not under so many rooms; -1 is under every number
 unfoldable pub astray : Parts → ℕ → ℕ → Bool

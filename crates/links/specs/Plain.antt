@@ -9,7 +9,7 @@ use Rattle.verdict.specs.Memory.{workSize}
 use Rattle.tables.specs.Parts.{none32, partsOf, transition}
 use Rattle.floor.specs.Sound.{Sound}
 use Rattle.layout.specs.Layout.{layoutVerdict}
-use Rattle.layout.specs.Rewrite.{roomNames}
+use Rattle.rooms.specs.Rooms.{roomNames}
 
 -- a sound floor, a layout that reads, and every transition -1 or the number of one of its rooms
 pub record Joined (b : List ℕ) (room : ℕ) (text : List ℕ) : Type 0 where

@@ -57,7 +57,7 @@ pub fn link_check(bytes: &[u8], work: &mut [u8], text: &[u8]) -> Answer
     if so.number != 0 {
         return so;
     }
-    let r = layout::room_count(text);
+    let r = rooms::room_count(text);
     if r.number != 0 {
         return Answer {
             number: r.number,

@@ -1,6 +1,6 @@
 -- What rules 7 to 10 say, as plain statements, both ways. Assumes nothing.
 use mathlib.Core.Path.{_≡_, refl, sym, ap, _∙_}
-use mathlib.Core.Bool.{Bool, true, false, not}
+use mathlib.Core.Bool.{true, false}
 use Prim.Native.Nat.{ℕ, zero, suc, _+_, _*_, _/_, _%_, _≤_, _<_}
 use native.Mathlib.Nat.{mul-add-div-right, mul-add-mod-self-right, div-eq-of-lt, mod-eq-of-lt, mul-le-mul-right, suc-mul, add-zero}
 use native.Mathlib.Omega.{arith}
@@ -10,13 +10,13 @@ use lib.ListN.{getD}
 use lib.Ieee.{Float, nan, inf, fin, binary32, ofBits}
 use borrow.Author.Tests.{leb-false, eqb-false, lt-leb, ne-eqb, ltb-false, ltb-true, lt-ltb, le-ltb, not-false}
 use Rattle.verdict.specs.Lists.{times, tally}
-use Rattle.verdict.specs.Verdict.{accepted, ruleOfEach}
+use Rattle.verdict.specs.Verdict.{accepted}
 use Rattle.verdict.proofs.Bools.{clash, test, same-test, decided, or-false, false-or, not-of-true}
 use Rattle.verdict.proofs.Lowest.{none-under, under-none}
 use Rattle.verdict.proofs.Lists.{tally-same}
 use Rattle.verdict.proofs.Verdict.{passed, then-both, each-met, each-passes}
 use Rattle.grid.specs.Grid.{finite}
-use Rattle.tables.specs.Parts.{Parts, countOf, wordOf, wordIndex, corner, material}
+use Rattle.tables.specs.Parts.{Parts, countOf, wordOf, corner, material}
 use Rattle.mesh.specs.Floats.{wild, wildHead, wildIn, rule7In, rule7}
 use Rattle.mesh.specs.Faces.{wrongCorner, wrongCorners, walkables, walkable, strange, misplaced, rule8, rule9, rule10}
 use Rattle.mesh.specs.Mesh.{rules7to10, IsFinite, Walkable, Finite, Cornered, Painted, Meshed}

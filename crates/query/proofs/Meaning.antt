@@ -21,7 +21,7 @@ use Rattle.verdict.proofs.Verdict.{passed, unbroken, met, each-passes, then-bot
 use Rattle.grid.specs.Box.{between, holdsXY}
 use Rattle.grid.specs.Plain.{OnGrid}
 use Rattle.grid.proofs.Grid.{grid-on}
-use Rattle.grid.proofs.Weights.{held}
+use Rattle.triangle.proofs.Weights.{held}
 use Rattle.tables.specs.Parts.{Parts, partsOf}
 use Rattle.nodes.specs.Nodes.{Nodes, nodesOf, faceOf}
 use Rattle.tree.specs.Plain.{follow, OneTree}

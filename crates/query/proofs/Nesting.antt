@@ -18,7 +18,7 @@ use Rattle.grid.specs.Box.{between, holdsXY, boxOfBits}
 use Rattle.grid.proofs.Grid.{on-grid, scaled-small}
 use Rattle.grid.proofs.Order.{le-grid, grid-le, le-scaled, scaled-le}
 use Rattle.grid.proofs.Boxes.{inner-back, holds-inner}
-use Rattle.grid.proofs.Corners.{x-mean, y-mean}
+use Rattle.triangle.proofs.Corners.{x-mean, y-mean}
 use Rattle.tables.specs.Parts.{Parts, partsOf, corner, nodeWord}
 use Rattle.mesh.proofs.Plain.{finite-test}
 use Rattle.nodes.specs.Nodes.{nodesOf, faceOf}

@@ -14,8 +14,8 @@ use Rattle.wire.proofs.Signed.{read, read-is, read-within}
 use Rattle.grid.specs.declared.Scaled64.{Scaled64}
 use Rattle.grid.specs.Grid.{onGrid, within}
 use Rattle.grid.specs.Answers.{scaledAt}
-use Rattle.grid.specs.Triangle.{inTriangle}
 use Rattle.grid.proofs.Answers.{on-is, v-is, v-small}
+use Rattle.triangle.specs.Triangle.{inTriangle}
 use Rattle.tables.specs.Parts.{Parts, vertexWord, corner}
 use Rattle.tree.specs.Boxes.{vertexFloat}
 use Rattle.query.specs.Rules.{offGrid}

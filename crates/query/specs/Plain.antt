@@ -12,8 +12,8 @@ use Rattle.verdict.specs.Memory.{workSize}
 use lib.Ieee.{le}
 use Rattle.grid.specs.Grid.{gridFloat}
 use Rattle.grid.specs.Plain.{OnGrid}
-use Rattle.grid.specs.Triangle.{cross}
-use Rattle.grid.specs.Weighted.{Weighted}
+use Rattle.triangle.specs.Triangle.{cross}
+use Rattle.triangle.specs.Weighted.{Weighted}
 use Rattle.tables.specs.Parts.{Parts, partsOf}
 use Rattle.nodes.specs.Nodes.{Nodes, nodesOf}
 use Rattle.tree.specs.Boxes.{boxOf, vertexFloat}

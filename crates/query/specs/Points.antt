@@ -12,7 +12,7 @@ use Rattle.verdict.specs.declared.Answer.{Answer}
 use Rattle.wire.specs.Signed.{Within}
 use Rattle.grid.specs.Grid.{scaled, gridFloat}
 use Rattle.grid.specs.Box.{holdsXY}
-use Rattle.grid.specs.Triangle.{inTriangle}
+use Rattle.triangle.specs.Triangle.{inTriangle}
 use Rattle.tables.specs.Parts.{Parts, partsOf, corner}
 use Rattle.nodes.specs.Nodes.{nodesOf}
 use Rattle.tree.specs.Boxes.{boxOf, vertexFloat}

@@ -143,7 +143,7 @@ fn face_holds(bytes: &[u8], at: Spot, f: usize) -> bool
     let a = flat_corner(bytes, f, 0);
     let b = flat_corner(bytes, f, 1);
     let c = flat_corner(bytes, f, 2);
-    grid::in_triangle(a.x, a.y, b.x, b.y, c.x, c.y, at.x, at.y)
+    triangle::in_triangle(a.x, a.y, b.x, b.y, c.x, c.y, at.x, at.y)
 }
 
 // Whether the walk goes on below node n: an inner node whose box holds the point.

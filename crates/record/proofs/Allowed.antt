@@ -1,11 +1,11 @@
 -- The laws of 22 and 23: 22 is symmetric, and each lets through a 32-bit word only; and a step's two widths. Assumes nothing.
-use mathlib.Core.Path.{_≡_, refl, sym}
+use mathlib.Core.Path.{_≡_, refl, sym, ap, _∙_}
 use mathlib.Core.Bool.{Bool, true, false, not, cond, _&&_}
-use Prim.Native.Nat.{ℕ, _≤_, _<_}
+use Prim.Native.Nat.{ℕ, suc, _-_, _≤_, _<_}
 use native.Mathlib.Omega.{arith}
 use native.Mathlib.Nat.{lt-of-lt-of-le}
 use native.Mathlib.Decide.{decLt}
-use lib.IntN.{ℤ, pos, negsuc, natAbs}
+use lib.IntN.{ℤ, pos, negsuc, natAbs, predℤ, _-ℤ_, predℤ-+ℤ, +ℤ-idl}
 use lib.Signed.{ltZ, nonNeg}
 use lib.Dec.{T, leb, lit≤}
 use mir.Syntax.{w32, w64}
@@ -60,7 +60,7 @@ permitted-by old new a b = rw (le-leb old 22 a, le-leb new 22 b)
 pub link-word : (t : ℤ) → mayLink t ≡ true → linkable (transitionWord t) ≡ true
 unfolding mayLink linkable transitionWord
 link-word (pos n) e = rw e
-link-word (negsuc n) e = refl
+link-word (negsuc n) e = rw (eqb-true n 0 e)
 
 pub linkable-small : (w : ℕ) → linkable w ≡ true → w < 4294967296
 unfolding linkable
@@ -77,10 +77,17 @@ unfolding mayLink
 link-high (pos n) e = decided (decLt n 64) (λ l. rw (lt-ltb n 64 l, le-leb n 63 (omega arith))) (λ l. rw (le-ltb n 64 (omega arith), lt-leb n 63 (omega arith)))
 link-high (negsuc n) e = sym (eq-eqb n 0 (omega (arith, ltb-false 0 n e)))
 
-pub word-low : (t : ℤ) → ltZ t (pos 0) ≡ true → 4294967295 ≡ transitionWord t
+-- how far a negative transition is below -1, and its bits
+pub record Below (t : ℤ) : Type 0 where
+  pub far : ℕ
+  pub is : negsuc 0 -ℤ t ≡ pos far
+  pub fits : SFits w32 (pos far)
+  pub word : 4294967295 - far ≡ transitionWord t
+
+pub below : (t : ℤ) → SFits w32 t → ltZ t (pos 0) ≡ true → Below t
 unfolding transitionWord
-word-low (pos n) e = absurd (omega (arith, ltb-true n 0 e))
-word-low (negsuc n) e = refl
+below (pos n) h e = absurd (omega (arith, ltb-true n 0 e))
+below (negsuc n) h e = record { far = n; is = predℤ-+ℤ (pos 0) (pos (suc n)) ∙ ap predℤ (+ℤ-idl (pos (suc n))); fits = record { sfits = h .sfits }; word = refl }
 
 pub word-high : (t : ℤ) → ltZ t (pos 0) ≡ false → (T (nonNeg t)) × (natAbs t ≡ transitionWord t)
 unfolding transitionWord

@@ -1,5 +1,5 @@
 -- What 22 and 23 ask of the bytes to be written, and a transition's bits. Definitions only.
-use Prim.Native.Nat.{ℕ}
+use Prim.Native.Nat.{ℕ, _-_}
 use mathlib.Core.Bool.{Bool, not, cond, _&&_, _||_}
 use lib.IntN.{ℤ, pos, negsuc}
 use lib.Dec.{leb, eqb}
@@ -19,7 +19,7 @@ mayLink (negsuc n) = eqb n 0
 unfoldable pub linkable : ℕ → Bool
 linkable word = leb word 63 || eqb word none32
 
--- the 32 bits of a transition that 23 lets through: no negative one but -1
+-- the 32 bits of a transition: those of -1 are the word for none, and the others count down from there
 unfoldable pub transitionWord : ℤ → ℕ
 transitionWord (pos n) = n
-transitionWord (negsuc n) = none32
+transitionWord (negsuc n) = none32 - n

@@ -43,12 +43,13 @@ pub fn may_link(t: i32) -> bool
     t < 64
 }
 
-// The bits of a transition that 23 lets through.
+// The 32 bits of a transition: those of a negative number count down from all ones, which is -1.
 pub fn transition_word(t: i32) -> u32
     ensures { λ r. ⌜ r ≡ transitionWord t ⌝ }
 {
     if t < 0 {
-        return 4294967295;
+        let below = -1 - t;
+        return 4294967295 - below as u32;
     }
     t as u32
 }

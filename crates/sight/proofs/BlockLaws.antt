@@ -1,13 +1,13 @@
 -- An observer's lines, one after the other: what is accepted is told, and what is told is accepted. Assumes nothing.
 use mathlib.Core.Path.{_≡_, refl, sym, ap, _∙_}
-use mathlib.Core.Bool.{Bool, true, false, cond, not}
+use mathlib.Core.Bool.{true, false}
 use mathlib.Core.List.{List, [], _∷_, _++_}
-use Prim.Native.Nat.{ℕ, zero, suc, _+_, _-_, _^_, _≤_, _<_}
+use Prim.Native.Nat.{ℕ, zero, suc, _+_, _-_, _≤_, _<_}
 use native.Mathlib.Omega.{arith}
 use lib.Dec.{eqb, ltb}
 use lib.ListN.{length, getD, set, length-set, length-append}
 use lib.Seq.{getD-set-same, set-getD, set-set}
-use borrow.Author.Tests.{lt-ltb, eq-eqb, ne-eqb, eqb-true, eqb-false}
+use borrow.Author.Tests.{lt-ltb, eq-eqb, ne-eqb, eqb-true}
 use Rattle.verdict.specs.Verdict.{accepted}
 use Rattle.verdict.proofs.Bools.{test}
 use Rattle.verdict.proofs.Lowest.{lowest-is}
@@ -20,10 +20,9 @@ use Rattle.text.proofs.AcceptLaws.{Steady}
 use Rattle.number.specs.Count.{value, isCount}
 use Rattle.layout.proofs.EachLaws.{Each, Apart}
 use Rattle.layout.proofs.Accepts.{Full}
-use Rattle.sight.specs.declared.Looking.{Looking}
 use Rattle.sight.specs.Rows.{sees, withMark}
 use Rattle.sight.specs.Grammar.{State, Reading, roomOf, roomFault, seenFault, observerFault, lineFault, movedTo, rowsBehind, fault, next, finish, sightGrammar}
-use Rattle.sight.specs.Plain.{In, Once, NamesRoom, NameLines, Observer, Block}
+use Rattle.sight.specs.Plain.{NamesRoom, NameLines, Observer, Block}
 use Rattle.sight.proofs.RoomLaws.{room-within, room-is}
 use Rattle.sight.proofs.RowsGood.{seen-faults, observer-faults, room-known, room-new}
 use Rattle.sight.proofs.FreshLaws.{Fresh, marksOf, fresh-once}

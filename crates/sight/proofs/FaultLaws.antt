@@ -1,19 +1,17 @@
 -- What is wrong with a line, case by case, and what a line without fault says. Assumes nothing.
-use mathlib.Core.Path.{_≡_, refl, sym, ap, _∙_}
-use mathlib.Core.Bool.{Bool, true, false, cond, not}
-use mathlib.Core.List.{List, [], _∷_}
-use Prim.Native.Nat.{ℕ, zero, suc, _+_, _-_, _≤_, _<_}
+use mathlib.Core.Path.{_≡_, refl}
+use mathlib.Core.Bool.{true, false}
+use mathlib.Core.List.{[], _∷_}
+use Prim.Native.Nat.{ℕ, _-_, _≤_, _<_}
 use native.Mathlib.Omega.{arith}
-use lib.Dec.{eqb, ltb}
-use lib.ListN.{length, getD, set}
-use borrow.Author.Tests.{eq-eqb, ne-eqb, eqb-false, lt-ltb, le-ltb, not-false}
-use Rattle.verdict.proofs.Bools.{test}
+use lib.ListN.{length}
+use borrow.Author.Tests.{eq-eqb, ne-eqb, lt-ltb, le-ltb}
 use Rattle.text.specs.Name.{isName}
-use Rattle.number.specs.Count.{value, isCount}
-use Rattle.text.specs.Reading.{Word, Line, nth}
+use Rattle.number.specs.Count.{isCount}
+use Rattle.text.specs.Reading.{Line, nth}
 use Rattle.sight.specs.declared.Looking.{Looking}
-use Rattle.sight.specs.Rows.{sees, withMark}
-use Rattle.sight.specs.Grammar.{roomFault, seenFault, observerFault, lineFault, movedTo, rowsBehind}
+use Rattle.sight.specs.Rows.{sees}
+use Rattle.sight.specs.Grammar.{roomFault, seenFault, observerFault, lineFault}
 
 -- ---- the room
 

@@ -1,5 +1,5 @@
 -- Finding the room that a word names among the rooms whose starts are kept. Assumes nothing.
-use mathlib.Core.Path.{_≡_, refl, sym, ap, _∙_}
+use mathlib.Core.Path.{_≡_, sym, _∙_}
 use mathlib.Core.Bool.{Bool, true, false}
 use mathlib.Core.List.{List, []}
 use Prim.Native.Nat.{ℕ, _≤_, _<_}
@@ -10,9 +10,9 @@ use Rattle.verdict.specs.Lowest.{lowest}
 use Rattle.verdict.proofs.Bools.{test, clash}
 use Rattle.verdict.proofs.Lowest.{lowest-hit, lowest-all, lowest-done}
 use Rattle.text.specs.Name.{isName, sameName}
-use Rattle.text.specs.Reading.{Word, nth}
+use Rattle.text.specs.Reading.{Word}
 use Rattle.text.proofs.NameLaws.{same-name-name, name-long}
-use Rattle.layout.specs.Starts.{entryAt, Named, keptName}
+use Rattle.layout.specs.Starts.{Named, keptName}
 use Rattle.layout.proofs.EachLaws.{length-names}
 use Rattle.layout.proofs.HeldLaws.{held-long, room-name}
 use Rattle.layout.specs.Starts.{held}

@@ -3,7 +3,6 @@ pub mod FaultLaws
 pub mod StepLaws
 pub mod RoomLaws
 pub mod FindLaws
-pub mod PrintLaws
 pub mod LowLaws
 pub mod RowsGood
 pub mod TurnLaws
@@ -12,7 +11,4 @@ pub mod FreshLaws
 pub mod BlockLaws
 pub mod PlainLaws
 pub mod AnswerLaws
-pub mod SightForm
-pub mod SightTrip
-pub mod ShownLaws
 pub mod Promises

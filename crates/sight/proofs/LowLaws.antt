@@ -1,20 +1,16 @@
 -- The first marks of a row, one after another: `row % 2 ^ j` is the row's first j marks, and its set marks are counted one by one. Assumes nothing.
 use mathlib.Core.Path.{_≡_, refl, sym, ap, _∙_}
-use mathlib.Core.Bool.{Bool, true, false, cond}
-use mathlib.Core.List.{List, [], _∷_}
+use mathlib.Core.Bool.{true, false}
 use Prim.Native.Nat.{ℕ, zero, suc, _+_, _*_, _/_, _%_, _^_, _≤_, _<_}
 use native.Mathlib.Nat.{mod-lt, mod-eq-of-lt, one-mul, zero-mul, zero-add, add-comm}
 use native.Mathlib.Numerals.{one-add}
 use native.Mathlib.Omega.{arith}
 use lib.Count.{ones, ones-cat, ones-le}
-use lib.ListN.{length, getD, length-append}
 use lib.Pow.{pow-pos, mod-pow-add}
 use borrow.Author.Tests.{eqb-true}
 use Rattle.verdict.specs.Lists.{bit, tally}
 use Rattle.verdict.proofs.Bools.{test}
-use Rattle.text.specs.Reading.{Word}
 use Rattle.sight.specs.Rows.{sees, withMark}
-use Rattle.sight.specs.Sight.{seenTo}
 use Rattle.sight.proofs.MarkLaws.{sees-past, unseen}
 
 -- a mark that is set is 1
@@ -79,23 +75,3 @@ ones-tally row n h = ap ones (sym (low-all row n h)) ∙ low-tally row n
 -- a row has no more set marks than rooms, 64 at the most
 pub ones-few : (row n : ℕ) → n ≤ 64 → row < 2 ^ n → ones row ≤ 64
 ones-few row n l h = omega (arith, ones-le n row h)
-
--- ---- the seen rooms
-
-piece-long : (b : Bool) (w : Word) → length (cond b (w ∷ []) []) ≡ bit b
-piece-long true w = refl
-piece-long false w = refl
-
--- as many are written as marks are set
-pub seen-tally : (names : List Word) (row n : ℕ) → length (seenTo names row n) ≡ tally n (sees row)
-unfolding seenTo tally
-seen-tally names row zero = refl
-seen-tally names row (suc n) =
-    let ih : length (seenTo names row n) ≡ tally n (sees row) = seen-tally names row n in
-    length-append (seenTo names row n) (cond (sees row n) (getD names n [] ∷ []) []) ∙ omega (arith, piece-long (sees row n) (getD names n []))
-
-pub seen-count-low : (names : List Word) (row n : ℕ) → length (seenTo names row n) ≡ ones (row % 2 ^ n)
-seen-count-low names row n = seen-tally names row n ∙ sym (low-tally row n)
-
-pub seen-count : (names : List Word) (row n : ℕ) → row < 2 ^ n → length (seenTo names row n) ≡ ones row
-seen-count names row n h = seen-tally names row n ∙ sym (ones-tally row n h)

@@ -1,14 +1,14 @@
 -- Marks of a row: past a row's end none is set, a row with one mark more fits where the row did, and no other mark changes.
 -- Assumes nothing.
-use mathlib.Core.Path.{_≡_, refl, sym, ap, _∙_}
-use mathlib.Core.Bool.{Bool, true, false}
-use Prim.Native.Nat.{ℕ, suc, _+_, _-_, _*_, _/_, _%_, _^_, _≤_, _<_}
+use mathlib.Core.Path.{_≡_, sym, ap, _∙_}
+use mathlib.Core.Bool.{true, false}
+use Prim.Native.Nat.{ℕ, _+_, _-_, _*_, _/_, _%_, _^_, _≤_, _<_}
 use native.Mathlib.Nat.{div-eq-of-lt, div-add-mod', lt-of-mul-lt-mul-right, mod-lt, mul-le-mul-right, mul-assoc, add-mul, zero-lt-suc, lt-of-lt-of-le, one-mul, mod-eq-of-lt}
 use native.Mathlib.Omega.{arith}
 use native.Mathlib.Decide.{decLt}
 use lib.Dec.{eqb}
 use lib.Pow.{pow-pos, pow-add, pow-mono, pow-lt, split, high, shr-shr}
-use borrow.Author.Tests.{eqb-false, ne-eqb, eq-eqb}
+use borrow.Author.Tests.{eqb-false, eq-eqb}
 use Rattle.verdict.proofs.Bools.{decided}
 use Rattle.sight.specs.Rows.{sees, withMark}
 

@@ -1,29 +1,28 @@
 -- Visibility is accepted exactly where its lines are those that the paper tells, and its marks are those that the lists tell.
 -- Assumes nothing.
-use mathlib.Core.Path.{_≡_, refl, sym, ap, _∙_}
+use mathlib.Core.Path.{_≡_, refl, ap, _∙_}
 use mathlib.Core.Logic.{_⊎_, inl, inr, _↔_}
-use mathlib.Core.Bool.{Bool, true, false, cond}
-use mathlib.Core.List.{List, [], _∷_, _++_, map}
-use Prim.Native.Nat.{ℕ, zero, suc, _^_, _≤_, _<_}
+use mathlib.Core.Bool.{true, false}
+use mathlib.Core.List.{List, [], _∷_, map}
+use Prim.Native.Nat.{ℕ, zero, suc, _≤_, _<_}
 use native.Mathlib.Omega.{arith}
 use native.Mathlib.Decide.{ℕ-discrete}
 use lib.ListN.{length, getD, set, length-set}
 use lib.Seq.{getD-set-same, getD-set-other}
 use lib.Pow.{pow-pos}
-use Rattle.verdict.specs.declared.Answer.{Answer}
 use Rattle.verdict.specs.Verdict.{accepted}
 use Rattle.verdict.proofs.Bools.{clash, decided}
 use Rattle.text.specs.Sound.{rules31to32}
 use Rattle.text.specs.Written.{wordLines}
 use Rattle.text.specs.Reading.{Word, Line, spoken}
 use Rattle.layout.specs.Layout.{layoutVerdict}
-use Rattle.layout.specs.Rewrite.{roomNames}
+use Rattle.rooms.specs.Rooms.{roomNames}
 use Rattle.layout.proofs.EachLaws.{Each, Apart}
 use Rattle.layout.proofs.Accepts.{Full, spoken-full}
 use Rattle.sight.specs.Rows.{sees, withMark, noRows}
 use Rattle.sight.specs.Grammar.{Reading, start}
 use Rattle.sight.specs.Sight.{grammar, sightVerdict, rowsOf}
-use Rattle.sight.specs.Plain.{In, Once, Observer, Block, Then, Blocks, Spelled, Sees, Marked}
+use Rattle.sight.specs.Plain.{StandsIn, Once, Observer, Blocks, Spelled, Sees, Marked}
 use Rattle.sight.proofs.MarkLaws.{sees-past}
 use Rattle.sight.proofs.RowsGood.{no-row, grammar-sane}
 use Rattle.sight.proofs.SightLaws.{few-names, names-apart, sight-passed, sight-sound, rows-sound, rows-accepted}
@@ -95,34 +94,34 @@ all-read names a (b ∷ bs) o told rows ls w c (n, ns) ((i, t), ts) =
     (all-read names a bs (b .room) (withMark told (b .room)) (laidOne rows b) (c .rest) (rw (length-set rows (b .room) (marksOf (getD rows (b .room) 0) (b .list))) w) (c .behind) ns ts))
 
 -- where each observer stands once and its row is empty, each list has its turn
-turns-by : (names : List Word) (bs : List Observer) (rows : List ℕ) (ls : List Line) → length names ≤ length rows → Blocks names bs ls → Once (rooms bs) → ((j k : ℕ) → In j (rooms bs) → sees (getD rows j 0) k ≡ false) → Turns rows bs
+turns-by : (names : List Word) (bs : List Observer) (rows : List ℕ) (ls : List Line) → length names ≤ length rows → Blocks names bs ls → Once (rooms bs) → ((j k : ℕ) → StandsIn j (rooms bs) → sees (getD rows j 0) k ≡ false) → Turns rows bs
 turns-by names [] rows ls w c o e = tt
 turns-by names (b ∷ bs) rows ls w c (o, os) e =
     ((omega (arith, c .here .observer .inside), once-fresh (b .list) _ (c .here .once) (λ k i. e (b .room) k (inl refl))), turns-by names bs (laidOne rows b) (c .rest) (rw (length-set rows (b .room) (marksOf (getD rows (b .room) 0) (b .list))) w) (c .behind) os still)
   where
-    still : (j k : ℕ) → In j (rooms bs) → sees (getD (laidOne rows b) j 0) k ≡ false
+    still : (j k : ℕ) → StandsIn j (rooms bs) → sees (getD (laidOne rows b) j 0) k ≡ false
     still j k i = rw (getD-set-other rows (b .room) j (marksOf (getD rows (b .room) 0) (b .list)) 0 (λ z. o (rw z at i))) (e j k (inr i))
 
 -- ---- the marks
 
-one-marks : (rows : List ℕ) (b : Observer) (j k : ℕ) → b .room < length rows → Fresh (getD rows (b .room) 0) (b .list) → sees (getD (laidOne rows b) j 0) k ≡ true ↔ ((sees (getD rows j 0) k ≡ true) ⊎ ((j ≡ b .room) × In k (b .list)))
+one-marks : (rows : List ℕ) (b : Observer) (j k : ℕ) → b .room < length rows → Fresh (getD rows (b .room) 0) (b .list) → sees (getD (laidOne rows b) j 0) k ≡ true ↔ ((sees (getD rows j 0) k ≡ true) ⊎ ((j ≡ b .room) × StandsIn k (b .list)))
 one-marks rows b j k i f = decided (ℕ-discrete j (b .room)) here there
   where
-    here : j ≡ b .room → sees (getD (laidOne rows b) j 0) k ≡ true ↔ ((sees (getD rows j 0) k ≡ true) ⊎ ((j ≡ b .room) × In k (b .list)))
+    here : j ≡ b .room → sees (getD (laidOne rows b) j 0) k ≡ true ↔ ((sees (getD rows j 0) k ≡ true) ⊎ ((j ≡ b .room) × StandsIn k (b .list)))
     here z = rw (z, getD-set-same rows (b .room) (marksOf (getD rows (b .room) 0) (b .list)) 0 i) (λ e. to (marks-are (b .list) _ k f .0 e), λ e. marks-are (b .list) _ k f .1 (from e))
       where
-        to : (sees (getD rows (b .room) 0) k ≡ true) ⊎ In k (b .list) → (sees (getD rows (b .room) 0) k ≡ true) ⊎ ((b .room ≡ b .room) × In k (b .list))
+        to : (sees (getD rows (b .room) 0) k ≡ true) ⊎ StandsIn k (b .list) → (sees (getD rows (b .room) 0) k ≡ true) ⊎ ((b .room ≡ b .room) × StandsIn k (b .list))
         to (inl e) = inl e
         to (inr e) = inr (refl, e)
 
-        from : (sees (getD rows (b .room) 0) k ≡ true) ⊎ ((b .room ≡ b .room) × In k (b .list)) → (sees (getD rows (b .room) 0) k ≡ true) ⊎ In k (b .list)
+        from : (sees (getD rows (b .room) 0) k ≡ true) ⊎ ((b .room ≡ b .room) × StandsIn k (b .list)) → (sees (getD rows (b .room) 0) k ≡ true) ⊎ StandsIn k (b .list)
         from (inl e) = inl e
         from (inr (q, e)) = inr e
 
-    there : (j ≡ b .room → ⊥) → sees (getD (laidOne rows b) j 0) k ≡ true ↔ ((sees (getD rows j 0) k ≡ true) ⊎ ((j ≡ b .room) × In k (b .list)))
+    there : (j ≡ b .room → ⊥) → sees (getD (laidOne rows b) j 0) k ≡ true ↔ ((sees (getD rows j 0) k ≡ true) ⊎ ((j ≡ b .room) × StandsIn k (b .list)))
     there z = rw (getD-set-other rows (b .room) j (marksOf (getD rows (b .room) 0) (b .list)) 0 z) (λ e. inl e, only)
       where
-        only : (sees (getD rows j 0) k ≡ true) ⊎ ((j ≡ b .room) × In k (b .list)) → sees (getD rows j 0) k ≡ true
+        only : (sees (getD rows j 0) k ≡ true) ⊎ ((j ≡ b .room) × StandsIn k (b .list)) → sees (getD rows j 0) k ≡ true
         only (inl e) = e
         only (inr (q, e)) = absurd (z q)
 
@@ -135,15 +134,15 @@ laid-marks [] rows j k t = (λ e. inl e, only)
     only (inr i) = absurd i
 laid-marks (b ∷ bs) rows j k ((i, f), ts) = (λ e. to (laid-marks bs (laidOne rows b) j k ts .0 e), λ e. laid-marks bs (laidOne rows b) j k ts .1 (from e))
   where
-    to : (sees (getD (laidOne rows b) j 0) k ≡ true) ⊎ Sees bs j k → (sees (getD rows j 0) k ≡ true) ⊎ (((j ≡ b .room) × In k (b .list)) ⊎ Sees bs j k)
+    to : (sees (getD (laidOne rows b) j 0) k ≡ true) ⊎ Sees bs j k → (sees (getD rows j 0) k ≡ true) ⊎ (((j ≡ b .room) × StandsIn k (b .list)) ⊎ Sees bs j k)
     to (inl e) = joined (one-marks rows b j k i f .0 e)
       where
-        joined : (sees (getD rows j 0) k ≡ true) ⊎ ((j ≡ b .room) × In k (b .list)) → (sees (getD rows j 0) k ≡ true) ⊎ (((j ≡ b .room) × In k (b .list)) ⊎ Sees bs j k)
+        joined : (sees (getD rows j 0) k ≡ true) ⊎ ((j ≡ b .room) × StandsIn k (b .list)) → (sees (getD rows j 0) k ≡ true) ⊎ (((j ≡ b .room) × StandsIn k (b .list)) ⊎ Sees bs j k)
         joined (inl h) = inl h
         joined (inr h) = inr (inl h)
     to (inr s) = inr (inr s)
 
-    from : (sees (getD rows j 0) k ≡ true) ⊎ (((j ≡ b .room) × In k (b .list)) ⊎ Sees bs j k) → (sees (getD (laidOne rows b) j 0) k ≡ true) ⊎ Sees bs j k
+    from : (sees (getD rows j 0) k ≡ true) ⊎ (((j ≡ b .room) × StandsIn k (b .list)) ⊎ Sees bs j k) → (sees (getD (laidOne rows b) j 0) k ≡ true) ⊎ Sees bs j k
     from (inl e) = inl (one-marks rows b j k i f .1 (inl e))
     from (inr (inl e)) = inl (one-marks rows b j k i f .1 (inr e))
     from (inr (inr s)) = inr s
@@ -178,7 +177,7 @@ pub spelled-sight : (layout s : List ℕ) (bs : List Observer) → layoutVerdict
 unfolding grammar
 spelled-sight layout s bs l b p =
     let names = roomNames layout in
-    let none : (k : ℕ) → In k (rooms bs) → sees 0 k ≡ false = λ k i. sees-past 0 k (pow-pos k) in
+    let none : (k : ℕ) → StandsIn k (rooms bs) → sees 0 k ≡ false = λ k i. sees-past 0 k (pow-pos k) in
     let t = turns-by names bs noRows (spoken (wordLines s)) (few-names layout) (p .blocks) (p .once) (λ j k i. nothing-seen j k) in
     let h = accepts-spoken names (wordLines s) start (laid noRows bs) (all-read names (names-apart layout) bs 0 0 noRows (spoken (wordLines s)) (few-names layout) (p .blocks) (once-fresh (rooms bs) 0 (p .once) none) t) in
     let e : grammar names s ≡ with (laid noRows bs) = h 0 in

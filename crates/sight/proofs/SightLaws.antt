@@ -15,7 +15,7 @@ use Rattle.verdict.proofs.Verdict.{passed, then-next, then-stop, Proper, then-p
 use Rattle.text.specs.Name.{isName}
 use Rattle.text.specs.Sound.{rules31to32}
 use Rattle.layout.specs.Layout.{layoutVerdict, layoutOf}
-use Rattle.layout.specs.Rewrite.{roomNames}
+use Rattle.rooms.specs.Rooms.{roomNames}
 use Rattle.layout.proofs.EachLaws.{Apart, each-at, length-names, names-at}
 use Rattle.layout.specs.Plain.{IsEntry}
 use Rattle.layout.proofs.ReadLaws.{layout-good, sound-proper, verdict-proper}

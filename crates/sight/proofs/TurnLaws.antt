@@ -1,13 +1,12 @@
 -- A turn of the reader, at the values that the code has in hand. Assumes nothing.
 use mathlib.Core.Path.{_≡_, refl, sym, ap, _∙_}
-use mathlib.Core.Bool.{Bool, true, false}
+use mathlib.Core.Bool.{true, false}
 use mathlib.Core.List.{List, [], _∷_}
-use Prim.Native.Nat.{ℕ, suc, _+_, _≤_, _<_}
+use Prim.Native.Nat.{ℕ, _+_, _≤_, _<_}
 use native.Mathlib.Omega.{arith}
 use lib.Dec.{ltb}
 use lib.ListN.{length, getD, drop}
 use borrow.Author.Tests.{eq-eqb, ne-eqb, lt-ltb, le-ltb, ltb-false}
-use Rattle.verdict.specs.Verdict.{accepted}
 use Rattle.verdict.proofs.Bools.{test}
 use Rattle.text.specs.Class.{isEnd}
 use Rattle.number.specs.Count.{isCount}
@@ -17,7 +16,7 @@ use Rattle.text.specs.Written.{wordLines}
 use Rattle.text.proofs.ReadingLaws.{rest, scan-next, scan-stop, scan-end}
 use Rattle.sight.specs.declared.Looking.{Looking}
 use Rattle.sight.specs.declared.Sight.{Sight}
-use Rattle.sight.specs.Rows.{sees, noRows}
+use Rattle.sight.specs.Rows.{sees}
 use Rattle.sight.specs.Grammar.{roomOf, roomFault, lineFault, movedTo, rowsBehind, State, start, fault, next, finish, sightGrammar}
 use Rattle.sight.specs.Sight.{grammar}
 use Rattle.sight.specs.Code.{asRead, noSight}

@@ -1,7 +1,7 @@
 -- The grammar of visibility (VIS), over a text that is cut into lines of words: name and count, then that many lines of one name. Names are
 -- a layout's rooms; an observer, or a name in one list, stands once. A blank line is a line of no words. Definitions only.
 use Prim.Native.Nat.{ℕ, _-_}
-use mathlib.Core.Bool.{Bool, cond, not}
+use mathlib.Core.Bool.{cond, not}
 use mathlib.Core.List.{List, [], _∷_}
 use lib.ListN.{length, getD, set}
 use lib.Dec.{ltb, eqb}

@@ -1,6 +1,5 @@
 pub mod Rows
 pub mod Grammar
 pub mod Sight
-pub mod Rewrite
 pub mod Code
 pub mod Plain

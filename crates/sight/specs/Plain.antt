@@ -13,14 +13,14 @@ use Rattle.sight.specs.Rows.{sees}
 -- ---- numbers in a list
 
 -- k stands in the list
-abbrev pub In : ℕ → List ℕ → Type 0
-In k [] = ⊥
-In k (j ∷ js) = (k ≡ j) ⊎ In k js
+abbrev pub StandsIn : ℕ → List ℕ → Type 0
+StandsIn k [] = ⊥
+StandsIn k (j ∷ js) = (k ≡ j) ⊎ StandsIn k js
 
 -- each number stands once
 abbrev pub Once : List ℕ → Type 0
 Once [] = Unit
-Once (j ∷ js) = (In j js → ⊥) × Once js
+Once (j ∷ js) = (StandsIn j js → ⊥) × Once js
 
 -- ---- lines
 
@@ -76,7 +76,7 @@ pub record Spelled (names : List Word) (bs : List Observer) (ls : List Line) : T
 -- observer j has k in its list
 abbrev pub Sees : List Observer → ℕ → ℕ → Type 0
 Sees [] j k = ⊥
-Sees (b ∷ bs) j k = ((j ≡ b .room) × In k (b .list)) ⊎ Sees bs j k
+Sees (b ∷ bs) j k = ((j ≡ b .room) × StandsIn k (b .list)) ⊎ Sees bs j k
 
 -- a room's row marks the rooms in its list, and no others
 pub record Marked (bs : List Observer) (rows : List ℕ) : Type 0 where

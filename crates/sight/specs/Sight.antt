@@ -1,21 +1,20 @@
--- Visibility against a layout: its verdict (the layout's refusals, then rules 31 to 39), its rows, and its fixed form. Definitions only.
-use Prim.Native.Nat.{ℕ, zero, suc}
+-- Visibility against a layout: its verdict (the layout's refusals, then rules 31 to 39), and its rows. Definitions only.
+use Prim.Native.Nat.{ℕ}
 use mathlib.Core.Bool.{cond}
-use mathlib.Core.List.{List, [], _∷_, _++_, map}
+use mathlib.Core.List.{List}
 use lib.Count.{ones}
 use lib.Dec.{eqb}
-use lib.ListN.{length, getD}
+use lib.ListN.{getD}
 use Rattle.verdict.specs.declared.Answer.{Answer}
 use Rattle.verdict.specs.Verdict.{_then_}
-use Rattle.number.specs.Number.{plain}
 use Rattle.text.specs.Sound.{rules31to32}
-use Rattle.text.specs.Written.{spaced, wordLines}
+use Rattle.text.specs.Written.{wordLines}
 use Rattle.text.specs.Reading.{Word, readLines}
 use Rattle.layout.specs.Layout.{layoutVerdict}
-use Rattle.layout.specs.Rewrite.{roomNames}
+use Rattle.rooms.specs.Rooms.{roomNames}
 use Rattle.sight.specs.declared.Sight.{Sight}
 use Rattle.sight.specs.declared.Row.{Row}
-use Rattle.sight.specs.Rows.{sees, noRows}
+use Rattle.sight.specs.Rows.{noRows}
 use Rattle.sight.specs.Grammar.{Reading, start, sightGrammar}
 
 -- what the grammar says of a text, by the names of the rooms
@@ -42,32 +41,3 @@ rowAnswer layout s room = record {
   row = getD (rowsOf layout s) room 0;
   seen = ones (getD (rowsOf layout s) room 0);
 }
-
--- ---- the fixed form: each room in order with its count, seen rooms in order behind two spaces
-
--- the names of the seen rooms among the first j, in order
-unfoldable pub seenTo : List Word → ℕ → ℕ → List Word
-seenTo names row zero = []
-seenTo names row (suc j) = seenTo names row j ++ cond (sees row j) (getD names j [] ∷ []) []
-
--- a seen room, behind two spaces
-unfoldable pub seenLine : Word → List ℕ
-seenLine w = 32 ∷ 32 ∷ w
-
--- a room with its count, and the rooms that it sees
-unfoldable pub roomLines : List Word → ℕ → ℕ → List (List ℕ)
-roomLines names room row = spaced (getD names room [] ∷ plain (ones row) ∷ []) ∷ map seenLine (seenTo names row (length names))
-
--- the lines of the first k rooms
-unfoldable pub linesTo : List Word → List ℕ → ℕ → List (List ℕ)
-linesTo names rows zero = []
-linesTo names rows (suc k) = linesTo names rows k ++ roomLines names k (getD rows k 0)
-
--- lines, LF behind each
-unfoldable pub ended : List (List ℕ) → List ℕ
-ended [] = []
-ended (l ∷ ls) = l ++ 10 ∷ ended ls
-
--- the bytes of the form
-unfoldable pub sightText : List Word → List ℕ → List ℕ
-sightText names rows = ended (linesTo names rows (length names))

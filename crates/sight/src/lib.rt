@@ -1,21 +1,17 @@
-// Visibility (VIS): read against a layout, rewritten, with another name for a room, and a room's row.
+// Visibility (VIS): read against a layout, and a room's row.
 use layout::Layout;
 use text::line_at;
 use text::line_end;
 use text::word;
-use verdict::Form;
 ghost use mathlib.Core.Path.{_≡_};
 ghost use Prim.Native.Nat.{_+_, _<_, _≤_};
 ghost use lib.ListN.{length};
-ghost use Rattle.verdict.specs.Output.{formAnswer, formMemory};
 ghost use Rattle.layout.specs.Starts.{Named, Answered};
 ghost use Rattle.sight.specs.Rows.{sees};
 ghost use Rattle.sight.specs.Sight.{grammar, sightOf, rowAnswer};
-ghost use Rattle.sight.specs.Rewrite.{rewrittenSight, renamedSight, sightRewriteVerdict, sightRenameVerdict};
-ghost use Rattle.sight.specs.Code.{asRead, noSight, noForm, keptNames};
+ghost use Rattle.sight.specs.Code.{asRead, noSight, keptNames};
 
 mod lines;
-mod print;
 
 // Where the reader is: the observer, how many rooms of its list are to come, and the marks of the observers so far.
 struct Looking {
@@ -90,7 +86,7 @@ fn read_lines(layout: &[u8], starts: &[usize], n: usize, s: &[u8]) -> Sight
 }
 
 // Visibility against a layout that was accepted.
-fn look(layout: &[u8], r: Layout, s: &[u8]) -> Sight
+pub fn look(layout: &[u8], r: Layout, s: &[u8]) -> Sight
     requires { ⌜ Answered (now layout) r × (r .number ≡ 0) ⌝ }
     ensures { λ v. ⌜ v ≡ sightOf (now (layout .entry)) (now (s .entry)) ⌝ }
 {
@@ -105,15 +101,14 @@ fn look(layout: &[u8], r: Layout, s: &[u8]) -> Sight
 
 // ---- what other crates call
 
-// A refused rewriting.
-fn refused_form(number: u32, place: u32) -> Form
-    ensures { λ r. ⌜ r ≡ noForm number place ⌝ }
+// Whether mark j of a row is set.
+pub fn is_seen(row: u64, j: usize) -> bool
+    ensures { λ r. ⌜ r ≡ sees row j ⌝ }
 {
-    Form {
-        number,
-        place,
-        length: 0,
+    if j < 64 {
+        return (row >> j) % 2 == 1;
     }
+    false
 }
 
 // Visibility against a layout.
@@ -152,46 +147,4 @@ pub fn sight_row(layout: &[u8], vis: &[u8], room: u32) -> Row
         row: 0,
         seen: 0,
     }
-}
-
-// Visibility in its fixed form.
-pub fn sight_rewrite(layout: &[u8], vis: &[u8], out: &mut [u8]) -> Form
-    ensures answer { λ f. ⌜ f ≡ formAnswer (sightRewriteVerdict (now (layout .entry)) (now (vis .entry)) (length (now (out .entry)))) (rewrittenSight (now (layout .entry)) (now (vis .entry))) ⌝ }
-    ensures memory { λ _. ⌜ now (out .exit) ≡ formMemory (sightRewriteVerdict (now (layout .entry)) (now (vis .entry)) (length (now (out .entry)))) (rewrittenSight (now (layout .entry)) (now (vis .entry))) (now (out .entry)) ⌝ }
-{
-    let r = layout::read(layout);
-    if r.number != 0 {
-        return refused_form(r.number, r.place);
-    }
-    let v = look(layout, r, vis);
-    if v.number != 0 {
-        return refused_form(v.number, v.place);
-    }
-    let n = r.rooms;
-    let starts = r.starts;
-    let rows = v.rows;
-    print::write_form(out, layout, &starts, n, &rows, 64, &layout[..0])
-}
-
-// The same with another name for a room.
-pub fn sight_rename(layout: &[u8], vis: &[u8], room: u32, name: &[u8], out: &mut [u8]) -> Form
-    ensures answer { λ f. ⌜ f ≡ formAnswer (sightRenameVerdict (now (layout .entry)) (now (vis .entry)) room (now (name .entry)) (length (now (out .entry)))) (renamedSight (now (layout .entry)) (now (vis .entry)) room (now (name .entry))) ⌝ }
-    ensures memory { λ _. ⌜ now (out .exit) ≡ formMemory (sightRenameVerdict (now (layout .entry)) (now (vis .entry)) room (now (name .entry)) (length (now (out .entry)))) (renamedSight (now (layout .entry)) (now (vis .entry)) room (now (name .entry))) (now (out .entry)) ⌝ }
-{
-    let r = layout::read(layout);
-    if r.number != 0 {
-        return refused_form(r.number, r.place);
-    }
-    let v = look(layout, r, vis);
-    if v.number != 0 {
-        return refused_form(v.number, v.place);
-    }
-    let a = layout::name_verdict(layout, r, room, name);
-    if a.number != 0 {
-        return refused_form(a.number, a.place);
-    }
-    let n = r.rooms;
-    let starts = r.starts;
-    let rows = v.rows;
-    print::write_form(out, layout, &starts, n, &rows, room as usize, name)
 }

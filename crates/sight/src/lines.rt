@@ -1,7 +1,8 @@
 // A line of visibility: the room that it names, what is wrong with it, and what it adds.
 use super::Looking;
-use layout::room_name;
+use super::is_seen;
 use number::is_count;
+use rooms::room_name;
 use text::is_name;
 use text::word;
 use text::word_count;
@@ -17,16 +18,6 @@ ghost use Rattle.layout.specs.Starts.{Named};
 ghost use Rattle.sight.specs.Rows.{sees, withMark};
 ghost use Rattle.sight.specs.Grammar.{roomOf, roomFault, seenFault, observerFault, lineFault, movedTo, rowsBehind};
 ghost use Rattle.sight.specs.Code.{keptNames};
-
-// Whether mark j of a row is set.
-pub(crate) fn is_seen(row: u64, j: usize) -> bool
-    ensures { λ r. ⌜ r ≡ sees row j ⌝ }
-{
-    if j < 64 {
-        return (row >> j) % 2 == 1;
-    }
-    false
-}
 
 // The row with mark j, which is not set yet.
 pub(crate) fn with_mark(row: u64, j: usize) -> u64

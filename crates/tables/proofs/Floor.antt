@@ -1,5 +1,5 @@
 -- The nine tables of a floor: their fields lie in the header, by one computed test; and what holds of nine numbers. Assumes nothing.
-use mathlib.Core.Path.{_≡_, refl, sym, ap, _∙_}
+use mathlib.Core.Path.{_≡_, sym, ap, _∙_}
 use mathlib.Core.Bool.{Bool, _&&_}
 use Prim.Native.Nat.{ℕ, zero, suc, _*_, _<_, _≤_, _^_}
 use native.Mathlib.Nat.{mul-assoc, mul-comm, mul-le-mul, lt-of-le-of-lt}

@@ -1,5 +1,5 @@
 -- A file's parts, by the places of its words: one law for every table. Assumes nothing.
-use mathlib.Core.Path.{_≡_, refl, sym, ap, _∙_}
+use mathlib.Core.Path.{_≡_, refl, sym, ap}
 use mathlib.Core.Logic.{_⊎_, inl, inr, _≢_}
 use mathlib.Core.List.{List, []}
 use Prim.Native.Nat.{ℕ, suc, _+_, _*_, _≤_, _<_, max}
@@ -10,16 +10,20 @@ use lib.ListN.{length, getD}
 use Rattle.verdict.proofs.Bools.{decided}
 use Rattle.verdict.proofs.Lists.{map-at}
 use Rattle.wire.specs.Bytes.{u32At, Bytes}
-use Rattle.wire.specs.Words.{wordsAt, Words}
+use Rattle.wire.specs.Words.{Words}
 use Rattle.wire.proofs.Numbers.{u32-small}
 use Rattle.wire.proofs.Runs.{length-words, word-at, words-read}
 use Rattle.tables.specs.Tables.{table, tableAt, width, spanOf, entryAt}
 use Rattle.tables.specs.Header.{floorTables, RightHeader}
-use Rattle.tables.specs.Parts.{Parts, tableWords, partsOf, tableOf, countOf, wordIndex, wordOf, wordPlace, wordsIn}
+use Rattle.tables.specs.Parts.{tableWords, partsOf, tableOf, countOf, wordIndex, wordOf, wordPlace, wordsIn}
 use Rattle.tables.specs.Fixed.{Sized, Whole}
 use Rattle.tables.proofs.Spans.{table-in, tables-apart}
 use Rattle.tables.proofs.Floor.{nine, in-words}
 use Rattle.tables.proofs.Right.{header-met, rule5-met, rule6-met}
+
+-- a word that code reads at a place, and what stands there
+pub read-at : (b : List ℕ) {r at place w : ℕ} → r ≡ u32At b at → at ≡ place → w ≡ u32At b place → r ≡ w
+read-at b e p q = rw (e, p) (sym q)
 
 -- ---- a table's words and its count
 
@@ -111,6 +115,9 @@ module _ (b : List ℕ) (k : ℕ) (lk : k < 9) (i : ℕ) (li : i < countOf (part
   pub word-of : wordOf (partsOf b) k i e ≡ u32At b (wordPlace b k (wordIndex k i e))
   unfolding wordOf
   word-of = word-is b k lk (wordIndex k i e) index-in
+
+  pub word-read : {r at : ℕ} → r ≡ u32At b at → at ≡ wordPlace b k (wordIndex k i e) → r ≡ wordOf (partsOf b) k i e
+  word-read p q = read-at b p q word-of
 
 -- one of the header's floats
 pub float-is : (b : List ℕ) (i : ℕ) → i < 15 → getD (partsOf b .floats) i 0 ≡ u32At b (12 + 4 * i)

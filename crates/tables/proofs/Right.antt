@@ -1,15 +1,15 @@
 -- When a header is right: rules 1 to 6 as plain facts, both ways; the first broken of them in order; and the few bytes that they
 -- depend on. Assumes nothing.
-use mathlib.Core.Path.{_≡_, refl, sym, ap, _∙_}
+use mathlib.Core.Path.{_≡_, refl, ap}
 use mathlib.Core.Logic.{_≢_}
-use mathlib.Core.Bool.{Bool, true, false, not, _||_}
-use mathlib.Core.List.{List, [], _∷_}
+use mathlib.Core.Bool.{true, false, not}
+use mathlib.Core.List.{List}
 use Prim.Native.Nat.{ℕ, _+_, _≤_, _<_}
 use native.Mathlib.Omega.{arith}
 use lib.Dec.{ltb, eqb}
 use lib.ListN.{length, getD}
-use borrow.Author.Tests.{lt-ltb, le-ltb, eq-eqb, ltb-false, eqb-true, not-false}
-use Rattle.verdict.specs.Verdict.{rule, ruleOfEach, accepted, refused, _then_, inOrder, FirstBroken}
+use borrow.Author.Tests.{le-ltb, eq-eqb, ltb-false, eqb-true, not-false}
+use Rattle.verdict.specs.Verdict.{rule, accepted, refused, inOrder, FirstBroken}
 use Rattle.verdict.specs.declared.Answer.{Answer}
 use Rattle.verdict.proofs.Bools.{test, or-false, not-of-true}
 use Rattle.verdict.proofs.Lowest.{none-under, under-none, any-same}

@@ -1,5 +1,5 @@
 -- What one written word does to a file: it is one word of the parts set, and rules 1 to 6 answer as before. Assumes nothing.
-use mathlib.Core.Path.{_≡_, refl, sym, ap, _∙_}
+use mathlib.Core.Path.{_≡_, sym, ap, _∙_}
 use mathlib.Core.Logic.{_⊎_, inl, inr, _≢_}
 use mathlib.Core.List.{List, [], map}
 use Prim.Native.Nat.{ℕ, _+_, _*_, _≤_, _<_}
@@ -9,7 +9,6 @@ use lib.ListN.{length, getD, set, length-set}
 use lib.Seq.{ext-getD, getD-set-same, getD-set-other}
 use Rattle.verdict.proofs.Lists.{map-at, map-same}
 use Rattle.wire.specs.Bytes.{u32At, putU32}
-use Rattle.wire.specs.Words.{wordsAt}
 use Rattle.wire.proofs.Numbers.{length-put-u32, byte-other, u32-other}
 use Rattle.wire.proofs.Runs.{words-other, words-here}
 use Rattle.tables.specs.Tables.{tableAt, table}

@@ -6,6 +6,7 @@ pub mod SplitLaws
 pub mod ReadingLaws
 pub mod AcceptLaws
 pub mod WriteLaws
+pub mod FitLaws
 pub mod WrittenLaws
 pub mod WordLaws
 pub mod CleanLaws

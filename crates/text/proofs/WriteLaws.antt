@@ -55,3 +55,7 @@ pub wrote-whole : {a b : List ℕ} {j : ℕ} {xs : List ℕ} → Wrote a b 0 j x
 wrote-whole {a} {b} {j} {xs} p h =
     let k : 0 + length xs ≡ length xs = omega arith in
     p .holds ∙ put-is xs a 0 (omega arith) ∙ rw k
+
+-- the bytes that were written, said in another way
+pub wrote-is : {a b : List ℕ} {i j : ℕ} {xs : List ℕ} (ys : List ℕ) → Wrote a b i j xs → xs ≡ ys → Wrote a b i j ys
+wrote-is ys w e = rw e at w

@@ -13,7 +13,7 @@ ghost use lib.ListN.{length, take, drop, getD};
 ghost use Rattle.verdict.specs.Lowest.{lowest};
 ghost use Rattle.text.specs.Class.{isGap, isEnd, nameByte};
 ghost use Rattle.text.specs.Scan.{run, words, apart, lines, lineAt};
-ghost use Rattle.text.specs.Sound.{badAt, rule32, rules31to32};
+ghost use Rattle.text.specs.Sound.{badAt, rules31to32};
 ghost use Rattle.text.specs.Name.{same, lower, lowered, isName, sameName};
 ghost use Rattle.text.specs.Write.{Wrote};
 

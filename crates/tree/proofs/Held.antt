@@ -1,18 +1,17 @@
 -- Laws of rule 14: the floats that it reads are finite, its test by cases, and its plain statement both ways. Assumes nothing.
-use mathlib.Core.Path.{_≡_, refl, sym, ap, _∙_}
+use mathlib.Core.Path.{_≡_, sym}
 use mathlib.Core.Logic.{_⊎_, inl, inr}
-use mathlib.Core.Bool.{Bool, true, false, not, cond, _&&_}
+use mathlib.Core.Bool.{Bool, true, false, not, cond}
 use Prim.Native.Nat.{ℕ, _≤_, _<_}
 use native.Mathlib.Omega.{arith}
 use lib.Ieee.{binary32, ofBits}
 use borrow.Author.Tests.{not-false}
-use Rattle.verdict.specs.Lowest.{allUnder}
 use Rattle.verdict.specs.Verdict.{accepted}
-use Rattle.verdict.proofs.Bools.{clash, test, and-true, true-and, not-of-true}
+use Rattle.verdict.proofs.Bools.{and-true, true-and}
 use Rattle.verdict.proofs.Lowest.{all-true, true-all}
 use Rattle.verdict.proofs.Verdict.{each-met, each-passes}
 use Rattle.grid.specs.Grid.{finite}
-use Rattle.grid.specs.Box.{FiniteBits, holdsPoint, holdsBox}
+use Rattle.grid.specs.Box.{FiniteBits, holdsBox}
 use Rattle.grid.specs.Plain.{HoldsBox, HoldsPoint}
 use Rattle.grid.proofs.Boxes.{point-held, held-point, inner, inner-back}
 use Rattle.tables.specs.Parts.{Parts, vertexWord, corner, nodeWord}

@@ -1,7 +1,6 @@
 -- Rule 14: a node's box holds its face's three corners, or both children's boxes, by plain float comparison, ends included.
 -- Definitions only.
-use Prim.Native.Nat.{ℕ, _<_}
-use mathlib.Core.Path.{_≡_}
+use Prim.Native.Nat.{ℕ}
 use mathlib.Core.Bool.{Bool, not, cond, _&&_}
 use lib.Ieee.{Float, binary32, ofBits}
 use Rattle.verdict.specs.Lowest.{allUnder}

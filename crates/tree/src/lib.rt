@@ -9,7 +9,7 @@ ghost use Rattle.verdict.specs.Lowest.{lowest, allUnder};
 ghost use Rattle.verdict.specs.Lists.{once};
 ghost use Rattle.verdict.specs.Memory.{workSize, clearedTo, isMarked, fresh, marked};
 ghost use Rattle.tables.specs.Header.{RightHeader};
-ghost use Rattle.tables.specs.Parts.{partsOf, corner};
+ghost use Rattle.tables.specs.Parts.{partsOf};
 ghost use Rattle.grid.specs.Box.{holdsPoint};
 ghost use Rattle.mesh.specs.Mesh.{Finite, Cornered};
 ghost use Rattle.nodes.specs.Nodes.{faceOf, leftOf, rightOf, nodesOf};

@@ -6,3 +6,4 @@ pub mod Marks
 pub mod Once
 pub mod Memory
 pub mod Output
+pub mod Chain

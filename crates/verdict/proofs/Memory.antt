@@ -9,7 +9,6 @@ use borrow.Author.Fill.{fill-none, fill-more}
 use Rattle.verdict.specs.Memory.{clearedTo, isMarked, marked}
 use Rattle.verdict.proofs.Bools.{test}
 use Rattle.verdict.proofs.Lists.{NoneFrom, none-head, none-tail}
-use Rattle.verdict.proofs.Marks.{marked-new, marked-hit}
 
 pub cleared-none : (w : List ℕ) → w ≡ clearedTo 0 w
 unfolding clearedTo

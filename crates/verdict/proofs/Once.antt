@@ -16,7 +16,7 @@ use Rattle.verdict.specs.Memory.{isMarked, fresh, marked}
 use Rattle.verdict.proofs.Bools.{clash, test, decided, same-test, and-true, true-and}
 use Rattle.verdict.proofs.Lowest.{all-true, true-all}
 use Rattle.verdict.proofs.Lists.{bit-same, NoneFrom, none-head, none-tail, none-more}
-use Rattle.verdict.proofs.Marks.{is-marked, not-marked, unmarked-byte, fresh-hit, fresh-new, marked-new}
+use Rattle.verdict.proofs.Marks.{is-marked, not-marked, fresh-hit, fresh-new}
 
 -- 1 where k is not marked, 0 where it is
 unfoldable pub room : List ℕ → ℕ → ℕ

@@ -1,15 +1,17 @@
 -- Laws of outputs: writing over the start of memory, part by part; and the answer and the memory of a rewriting, case by case.
 -- Assumes nothing.
-use mathlib.Core.Path.{_≡_, refl, sym, ap, _∙_, subst}
-use mathlib.Core.List.{List, [], _∷_, _++_}
-use Prim.Native.Nat.{ℕ, _+_, _-_, _≤_, _<_}
+use mathlib.Core.Path.{_≡_, refl, ap, _∙_, subst}
+use mathlib.Core.List.{List, [], _++_}
+use Prim.Native.Nat.{ℕ, _+_, _-_, _≤_}
 use native.Mathlib.Omega.{arith}
 use lib.ListN.{length, take, drop, length-append, length-drop}
 use lib.Seq.{paste, take-at, drop-append-add, drop-drop, length-take-le}
-use borrow.Author.Tests.{eq-eqb, ne-eqb}
+use borrow.Author.Tests.{ne-eqb}
+use Rattle.verdict.specs.Verdict.{accepted, refused, _then_}
 use Rattle.verdict.specs.Output.{over, formAnswer, formMemory}
 use Rattle.verdict.specs.declared.Answer.{Answer}
 use Rattle.verdict.specs.declared.Form.{Form}
+use Rattle.verdict.proofs.Verdict.{then-next, then-stop}
 
 -- ---- memory written over
 
@@ -57,3 +59,23 @@ module _ (a : Answer) (form o : List ℕ) where
       → (_≡_ {A = Form} (record { number = 0; place = 0; length = n }) (formAnswer a form)) × (over form o ≡ formMemory a form o)
   unfolding formAnswer formMemory
   form-written n z p e = rw (z, p, e) (refl, refl)
+
+-- ---- the two together, behind verdicts one after the other
+
+-- an answer and the output
+abbrev pub Answers : Form → List ℕ → Answer → List ℕ → List ℕ → Type 0
+Answers f new v text o = (f ≡ formAnswer v text) × (new ≡ formMemory v text o)
+
+pub refused-form : (v : Answer) (text o : List ℕ) (n p : ℕ) → v ≡ refused n p → (n ≡ 0 → ⊥) → Answers (record { number = n; place = p; length = 0 }) o v text o
+refused-form v text o n p e z = rw e (form-refused (refused n p) text o z)
+
+-- three verdicts, one after the other: the first that refuses is answered, and where two accept the third decides
+module _ (u v b : Answer) where
+  pub first-refuses : (text o : List ℕ) (n p : ℕ) → u ≡ refused n p → (n ≡ 0 → ⊥) → Answers (record { number = n; place = p; length = 0 }) o (u then v then b) text o
+  first-refuses text o n p e z = refused-form (u then v then b) text o n p (rw (e, then-stop (refused n p) z v) (then-stop (refused n p) z b)) z
+
+  pub second-refuses : (text o : List ℕ) (a : Answer) → u ≡ accepted → a ≡ v → (a .number ≡ 0 → ⊥) → Answers (record { number = a .number; place = a .place; length = 0 }) o (u then v then b) text o
+  second-refuses text o a e ea z = refused-form (u then v then b) text o _ _ (rw (e, ← ea, then-next accepted a refl) (then-stop a z b)) z
+
+  pub third-decides : (f : Form) (new text o : List ℕ) (a : Answer) → u ≡ accepted → a ≡ v → a .number ≡ 0 → Answers f new b text o → Answers f new (u then v then b) text o
+  third-decides f new text o a e ea z h = rw (e, ← ea, then-next accepted a refl, then-next a b z) h

@@ -1,17 +1,15 @@
 -- The laws of verdicts. Assumes nothing.
 use mathlib.Core.Path.{_≡_, refl, sym, _∙_, ap}
-use mathlib.Core.Logic.{_≢_}
-use mathlib.Core.Bool.{Bool, true, false, cond}
+use mathlib.Core.Bool.{Bool, true, false}
 use mathlib.Core.List.{List, [], _∷_}
 use Prim.Native.Nat.{ℕ, zero, suc, _<_, _≤_}
 use native.Mathlib.Omega.{arith}
 use native.Mathlib.Decide.{ℕ-discrete, decLt}
-use native.Mathlib.Nat.{le-of-suc-le-suc}
-use lib.Dec.{eqb, ltb}
-use lib.ListN.{length, getD}
+use lib.Dec.{ltb}
+use lib.ListN.{getD}
 use borrow.Author.Tests.{eq-eqb, ne-eqb, ltb-false, le-ltb, lt-ltb}
 use Rattle.verdict.specs.Lowest.{lowest}
-use Rattle.verdict.specs.Verdict.{accepted, refused, rule, ruleOfEach, _then_, inOrder, FirstBroken}
+use Rattle.verdict.specs.Verdict.{accepted, rule, ruleOfEach, _then_, inOrder, FirstBroken}
 use Rattle.verdict.specs.declared.Answer.{Answer}
 use Rattle.verdict.proofs.Bools.{decided, test}
 use Rattle.verdict.proofs.Lowest.{lowest-is, lowest-all, lowest-same}

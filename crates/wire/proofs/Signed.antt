@@ -4,9 +4,9 @@ use Prim.Native.Nat.{ℕ, zero, suc, _+_, _-_, _*_, _^_, _≤_, _<_}
 use native.Mathlib.Nat.{lt-of-le-of-lt, le-trans, le-refl, le-of-eq, add-comm, add-le-add, mul-le-mul}
 use native.Mathlib.Omega.{arith}
 use lib.IntN.{ℤ, pos, negsuc, negℤ, natAbs, _+ℤ_, _-ℤ_, _*ℤ_, subℕ, +ℤ-idl}
-use lib.Signed.{mag, leZ, ltZ}
+use lib.Signed.{leZ, ltZ}
 use mathlib.Core.Bool.{Bool, true, false, cond, _&&_}
-use lib.Dec.{T, leb, ltb, ltb→lt, lit<, leb·zero, leb·suc-zero, leb·suc-suc}
+use lib.Dec.{T, leb, ltb, ltb→lt, leb·zero, leb·suc-zero, leb·suc-suc}
 use mir.Syntax.{w64}
 use mir.Val.{SFits, toZ, ofZ}
 use mir.ValLaws.{toZ-pos, toZ-ofZ}

@@ -1,13 +1,13 @@
 -- The checked examples hold: one test that is computed over the table, and one law that turns it into the equation of each case.
 -- Assumes nothing.
-use mathlib.Core.Path.{_≡_, refl, sym, _∙_, ap}
+use mathlib.Core.Path.{_≡_, refl, _∙_}
 use mathlib.Core.Bool.{Bool, true, false, _&&_}
 use mathlib.Core.List.{List, [], _∷_, _++_}
-use Prim.Native.Nat.{ℕ, _+_, _<_, _≤_}
+use Prim.Native.Nat.{ℕ, _+_, _<_}
 use native.Mathlib.Omega.{arith}
 use lib.Dec.{T, ltb, eqb}
 use lib.ListN.{length, replicate, length-append, length-replicate}
-use lib.Ieee.{Float, ofBits, toBits, round, le, lt, eq}
+use lib.Ieee.{ofBits, toBits, round, le, lt, eq}
 use borrow.Author.Tests.{le-ltb, lt-ltb, ltb-true, eqb-true}
 use Rattle.verdict.specs.Lowest.{lowest, anyUnder, allUnder}
 use Rattle.verdict.specs.Lists.{times, tally, once}
@@ -20,7 +20,7 @@ use Rattle.wire.specs.Bytes.{u32At, u32Bytes, put}
 use Rattle.wire.specs.Words.{wordsAt, bytesOf, joined}
 use Rattle.grid.specs.Grid.{finite, onGrid, size64, scaled, gridFloat, mayNudge, nudgeBits}
 use Rattle.grid.specs.Box.{between, noneOver, holdsPoint, holdsBox, holdsXY, boxOfBits}
-use Rattle.grid.specs.Triangle.{inTriangle, sides, allLeft, allRight, cross}
+use Rattle.triangle.specs.Triangle.{inTriangle, sides, allLeft, allRight, cross}
 use Rattle.tables.specs.Tables.{rule5, rule6, outsideAt, outside, spanOf, shares, sharesEarlier}
 use Rattle.tables.specs.Header.{wrongLength, headerVerdict, rules2to6, startsWrong, differs, limit, rule1, rule2, rule3, rule4}
 use Rattle.tables.specs.Parts.{partsOf, tableWords, wordOf, wordPlace}
@@ -32,7 +32,7 @@ use Rattle.nodes.specs.Nodes.{nodesOf, isPlane, isLeaf, isInner, neither, rule1
 use Rattle.tree.specs.Tree.{ends, deep, leafFaces, oneTree, rule13}
 use Rattle.tree.specs.Visits.{visitedCount, shown, above}
 use Rattle.tree.specs.Boxes.{boxOf, holdsCorner, holdsFace, holdsChildren, tooSmall, rule14}
-use Rattle.border.specs.Halves.{from, to, runs, repeats, partner, border, pairing, wrongAdjacent, rule15, rule16}
+use Rattle.pairs.specs.Halves.{from, to, runs, repeats, partner, border, pairing, wrongAdjacent, rule15, rule16}
 use Rattle.border.specs.Loops.{standsIn, wrongEdge, missing, rule17, wrongTransition, rule18, loopStart, after, openAt, openRun, wrongLoop, rule19}
 use Rattle.floor.specs.Groups.{rules1to19}
 use Rattle.floor.specs.Reader.{rule20, readerVerdict, walkableFaces, answerOf, readerAnswer}

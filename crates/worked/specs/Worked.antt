@@ -11,7 +11,7 @@ use Rattle.wire.specs.Words.{bytesOf}
 use Rattle.grid.specs.Grid.{mayNudge, nudgeBits}
 use Rattle.tables.specs.Header.{magic}
 use Rattle.tables.specs.Parts.{partsOf}
-use Rattle.border.specs.Halves.{pairing}
+use Rattle.pairs.specs.Halves.{pairing}
 use Rattle.floor.specs.Reader.{readerAnswer}
 use Rattle.floor.specs.Rewrite.{rewriteAnswer, rewriteMemory}
 use Rattle.floor.specs.declared.Floor.{Floor}

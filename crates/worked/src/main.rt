@@ -102,13 +102,13 @@ fn nudges() {
 }
 
 fn triangles() {
-    said(grid::in_triangle(0, 0, 64, 0, 0, 64, 32, 32));
-    said(grid::in_triangle(0, 0, 64, 0, 0, 64, 64, 0));
-    said(grid::in_triangle(0, 0, 64, 0, 0, 64, 33, 32));
-    said(grid::in_triangle(0, 0, 0, 64, 64, 0, 32, 32));
-    said(grid::in_triangle(0, 0, 64, 0, 128, 0, 64, 0));
-    said(grid::in_triangle(-65536, -65536, 65536, -65536, -65536, 65536, 0, 0));
-    said(grid::in_triangle(-65536, -65536, 65536, -65536, -65536, 65536, 1, 0));
+    said(triangle::in_triangle(0, 0, 64, 0, 0, 64, 32, 32));
+    said(triangle::in_triangle(0, 0, 64, 0, 0, 64, 64, 0));
+    said(triangle::in_triangle(0, 0, 64, 0, 0, 64, 33, 32));
+    said(triangle::in_triangle(0, 0, 0, 64, 64, 0, 32, 32));
+    said(triangle::in_triangle(0, 0, 64, 0, 128, 0, 64, 0));
+    said(triangle::in_triangle(-65536, -65536, 65536, -65536, -65536, 65536, 0, 0));
+    said(triangle::in_triangle(-65536, -65536, 65536, -65536, -65536, 65536, 1, 0));
 }
 
 fn main() {

@@ -130,7 +130,7 @@ fn row(what: &[u8], rooms: &[u8], vis: &[u8], room: u32) {
 
 // Visibility in its fixed form.
 fn sight(what: &[u8], rooms: &[u8], vis: &[u8], out: &mut [u8]) {
-    let f = sight::sight_rewrite(rooms, vis, out);
+    let f = sightform::sight_rewrite(rooms, vis, out);
     form(b"VIS", what, f, out);
 }
 
@@ -145,8 +145,8 @@ fn sight_and_row(what: &[u8], rooms: &[u8], vis: &[u8], room: u32) {
 fn read_back(what: &[u8], rooms: &[u8], vis: &[u8], room: u32, name: &[u8]) {
     let mut new_rooms = [0u8; 512];
     let mut new_vis = [0u8; 512];
-    let a = layout::layout_rename(rooms, room, name, &mut new_rooms);
-    let b = sight::sight_rename(rooms, vis, room, name, &mut new_vis);
+    let a = layoutform::layout_rename(rooms, room, name, &mut new_rooms);
+    let b = sightform::sight_rename(rooms, vis, room, name, &mut new_vis);
     let n = a.length as usize;
     let m = b.length as usize;
     sight_and_row(what, start(&new_rooms, n), start(&new_vis, m), room);
@@ -163,17 +163,17 @@ fn written(
     out: &mut [u8],
 ) {
     if same_word(call, b"LYT") {
-        let f = layout::layout_rewrite(first, out);
+        let f = layoutform::layout_rewrite(first, out);
         return form(call, what, f, out);
     }
     if same_word(call, b"LYT renamed,") {
-        let f = layout::layout_rename(first, room, name, out);
+        let f = layoutform::layout_rename(first, room, name, out);
         return form(call, what, f, out);
     }
     if same_word(call, b"VIS") {
         return sight(what, first, second, out);
     }
-    let f = sight::sight_rename(first, second, room, name, out);
+    let f = sightform::sight_rename(first, second, room, name, out);
     form(call, what, f, out);
 }
 
@@ -259,9 +259,9 @@ pub(crate) fn longest() {
     let rooms = b"beginlayout\nroomcount 3\nHall 0 0 0\nCourt 10 0 0\nWell 0 10 0\ndonelayout\n";
     let over = [35u8; 65537];
     let most = [35u8; 65536];
-    let a = layout::layout_rewrite(&over, &mut out);
+    let a = layoutform::layout_rewrite(&over, &mut out);
     form(b"LYT", b"65,537 refused bytes", a, &out);
-    let b = layout::layout_rewrite(&most, &mut out);
+    let b = layoutform::layout_rewrite(&most, &mut out);
     form(b"LYT", b"65,536 refused bytes", b, &out);
     sight(b"layout refused first", b"beginlayout\n\n", &over, &mut out);
     sight(b"65,537 refused bytes", rooms, &over, &mut out);

@@ -4,7 +4,7 @@ use native.Mathlib.Omega.{arith}
 use denote.Ref.{now}
 use Rattle.verdict.proofs.Lowest.{lowest-within}
 use Rattle.tables.specs.Parts.{partsOf}
-use Rattle.border.proofs.Halves.{few-walkable}
+use Rattle.pairs.proofs.Halves.{few-walkable}
 use Rattle.border.proofs.Edges.{edges-rule, edges-rest}
 use Rattle.border.proofs.edges_found.Statement.{statement}
 use Rattle.border.proofs.edges_found.Tie as tie

@@ -5,8 +5,8 @@ use mathlib.Core.Path.{sym}
 use denote.Ref.{now}
 use Rattle.verdict.specs.Memory.{isMarked}
 use Rattle.verdict.proofs.Bools.{not-not}
+use Rattle.pairs.proofs.Halves.{few-walkable}
 use Rattle.border.specs.Memory.{unmarked}
-use Rattle.border.proofs.Halves.{few-walkable}
 use Rattle.border.proofs.is_unmarked.Statement.{statement}
 use Rattle.border.proofs.is_unmarked.Tie as tie
 

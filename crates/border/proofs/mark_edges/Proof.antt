@@ -9,9 +9,9 @@ use denote.Ref.{now}
 use Rattle.verdict.specs.Lowest.{lowest}
 use Rattle.verdict.proofs.Lowest.{lowest-none, lowest-more, lowest-hit, lowest-done}
 use Rattle.tables.specs.Parts.{partsOf}
+use Rattle.pairs.proofs.Halves.{few-walkable}
 use Rattle.border.specs.Loops.{wrongEdge}
 use Rattle.border.specs.Memory.{marksOf}
-use Rattle.border.proofs.Halves.{few-walkable}
 use Rattle.border.proofs.Marks.{marks-none, marks-more, edge-in, told-by}
 use Rattle.border.proofs.mark_edges.Statement.{statement}
 use Rattle.border.proofs.mark_edges.Tie as tie

@@ -4,8 +4,8 @@ use native.Mathlib.Omega.{arith}
 use mathlib.Core.Path.{sym, _∙_}
 use denote.Ref.{now}
 use Rattle.verdict.specs.Memory.{isMarked}
+use Rattle.pairs.proofs.Halves.{few-walkable, border-in}
 use Rattle.border.specs.Memory.{wrongBy}
-use Rattle.border.proofs.Halves.{few-walkable, border-in}
 use Rattle.border.proofs.wrong_by.Statement.{statement}
 use Rattle.border.proofs.wrong_by.Tie as tie
 

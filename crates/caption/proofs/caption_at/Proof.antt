@@ -1,8 +1,8 @@
 -- `caption::caption_at` meets its contract. Assumes nothing.
-use mathlib.Core.Path.{_≡_, refl, sym, ap, _∙_}
+use mathlib.Core.Path.{_≡_, ap}
 use lib.ListN.{length}
 use Rattle.text.proofs.NameLaws.{name-long}
-use Rattle.layout.proofs.AnswerLaws.{rooms-have-names}
+use Rattle.rooms.proofs.RoomLaws.{rooms-have-names}
 use Rattle.caption.proofs.CaptionLaws.{has-it, has-none, its-name}
 use Rattle.layout.proofs.HeldLaws.{named-asked}
 use Rattle.caption.proofs.PlaceLaws.{room-read, place-first, place-second, place-41}

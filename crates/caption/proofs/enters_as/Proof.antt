@@ -1,5 +1,5 @@
 -- `caption::enters_as` meets its contract. Assumes nothing.
-use mathlib.Core.Path.{_≡_, refl, sym, ap, _∙_}
+use mathlib.Core.Path.{sym, _∙_}
 use Rattle.caption.proofs.PlaceLaws.{enters-no, enters-by}
 use borrow.Author.Needs.{needs}
 use Rattle.caption.proofs.enters_as.Statement.{statement}

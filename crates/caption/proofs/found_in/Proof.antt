@@ -1,5 +1,4 @@
 -- `caption::found_in` meets its contract. Assumes nothing.
-use mathlib.Core.Path.{_≡_, refl, sym, ap, _∙_}
 use Rattle.caption.proofs.PlaceLaws.{found-is}
 use borrow.Author.Needs.{needs}
 use Rattle.caption.proofs.found_in.Statement.{statement}

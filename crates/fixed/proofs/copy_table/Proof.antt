@@ -1,7 +1,7 @@
 -- The table's bytes, from where it lies. Assumes nothing.
 use borrow.Author.Needs.{needs}
 use native.Mathlib.Omega.{arith}
-use Prim.Native.Nat.{_+_, _*_, _-_}
+use Prim.Native.Nat.{_+_, _*_}
 use mathlib.Core.Path.{_≡_}
 use denote.Ref.{now}
 use Rattle.wire.specs.Bytes.{u32At}
@@ -9,6 +9,7 @@ use Rattle.tables.specs.Tables.{tableAt}
 use Rattle.tables.specs.Header.{floorTables}
 use Rattle.tables.specs.Parts.{wordsIn}
 use Rattle.tables.proofs.Reading.{start-at, stop-at, table-inside}
+use Rattle.fixed.proofs.Parted.{sum-more, span-copied}
 use Rattle.fixed.proofs.copy_table.Statement.{statement}
 use Rattle.fixed.proofs.copy_table.Tie as tie
 
@@ -26,7 +27,7 @@ lies c =
     }
 
 sub-n : tie.Need-sub-n
-sub-n c = omega (arith, lies (c .before))
+sub-n c = sum-more _ (lies (c .before) .stop)
 
 copy-part-requires : tie.Need-copy-part-requires
 copy-part-requires c κs =
@@ -40,9 +41,7 @@ add-result c = omega (arith, lies (c .before .before .before .before .before))
 returns : tie.Need-returns
 returns c =
     let l = lies (c .before .before .before .before .before) in
-    let s = c .before .before .before .before .before .before .before .before in
-    let e : c .before .before .before .before .before .span-at .result .stop - c .before .before .before .before .before .span-at .result .start ≡ 4 * wordsIn (now (s .args .bytes)) (s .args .k) = omega (arith, l .stop) in
-    (omega (arith, e), cc (l .start, e))
+    span-copied _ _ _ _ _ _ _ (l .start) (l .stop) (c .before .before .copy-part .ensures)
 
 pub copy-table-spec : {M : Type 1} → statement M
 copy-table-spec = tie.close (tie.spec (search needs) sub-n copy-part-requires add-result (search needs) returns)

@@ -1,7 +1,6 @@
 -- Where a tenth table would start. Assumes nothing.
 use borrow.Author.Needs.{needs}
 use native.Mathlib.Omega.{arith}
-use mathlib.Core.Path.{_≡_}
 use denote.Ref.{now}
 use Rattle.tables.specs.Parts.{partsOf}
 use Rattle.tables.proofs.Reading.{sized-of}

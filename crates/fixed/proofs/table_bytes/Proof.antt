@@ -1,7 +1,6 @@
 -- From the start to the stop. Assumes nothing.
 use borrow.Author.Needs.{needs}
 use native.Mathlib.Omega.{arith}
-use mathlib.Core.Path.{_≡_}
 use denote.Ref.{now}
 use Rattle.tables.proofs.Reading.{start-at, stop-at}
 use Rattle.fixed.proofs.table_bytes.Statement.{statement}

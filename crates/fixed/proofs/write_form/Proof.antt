@@ -58,8 +58,7 @@ loop-again c =
     let l = c .before .before .before .before .before .loop in
     let t = c .before .before .copy-table in
     let y : Bytes b = record { byte = λ i. omega (arith, known .shared-slice-known .given i) } in (
-      t .ensures .1
-          ∙ rw (l .inv .1) (table-written b (s .pre .0) y _ _ (l .k) (omega arith) (omega (arith, l .inv .3, l .inv .4, start-mono (partsOf b) (sized-of b (s .pre .0)) (l .k + 1) 9 (omega arith))) (l .inv .0)),
+      table-written b (s .pre .0) y _ _ (l .k) (omega arith) (omega (arith, l .inv .3, l .inv .4, start-mono (partsOf b) (sized-of b (s .pre .0)) (l .k + 1) 9 (omega arith))) (l .inv .0) (l .inv .1) (t .ensures .1),
       omega (arith, t .ensures .0, start-next b (s .pre .0) (l .k) (omega arith)),
       omega arith,
       omega (arith, t .kept),

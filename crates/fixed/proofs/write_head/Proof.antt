@@ -1,7 +1,6 @@
 -- The first 72 bytes as they are, then the fields. Assumes nothing.
 use borrow.Author.Needs.{needs}
 use native.Mathlib.Omega.{arith}
-use mathlib.Core.Path.{_≡_}
 use denote.Ref.{now}
 use Rattle.fixed.proofs.Parted.{head-written}
 use Rattle.fixed.proofs.write_head.Statement.{statement}
@@ -9,9 +8,13 @@ use Rattle.fixed.proofs.write_head.Tie as tie
 
 returns : tie.Need-returns
 returns c =
-    let known = c .before .before .before .before .before .before .before .before .before .before .before .before .before in
+    let more = c .before .before in
+    let fields = more .before .before .before .before in
+    let part = fields .before .before .before .before in
+    let known = part .before .before .before in
     let s = known .before in
-    cc (head-written (now (s .args .bytes)) (s .pre .0) (record { byte = λ i. omega (arith, known .shared-slice-known .given i) }) (now (s .args .out)) (s .pre .2))
+    head-written (now (s .args .bytes)) (s .pre .0) (record { byte = λ i. omega (arith, known .shared-slice-known .given i) }) _ (s .pre .2)
+    (part .copy-part .ensures) (fields .put-fields .ensures) (more .put-more-fields .ensures)
 
 pub write-head-spec : {M : Type 1} → statement M
 write-head-spec = tie.close (tie.spec (search needs) (search needs) (search needs) (search needs) returns)

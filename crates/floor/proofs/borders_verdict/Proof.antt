@@ -1,7 +1,6 @@
 -- Partners, then edge entries and loops. Assumes nothing.
 use borrow.Author.Needs.{needs}
 use native.Mathlib.Omega.{arith}
-use mathlib.Core.Path.{_≡_}
 use Rattle.tree.proofs.Rule13.{twice}
 use Rattle.floor.specs.Groups.{rules15to19}
 use Rattle.floor.proofs.Order.{stops, goes-on, zero}

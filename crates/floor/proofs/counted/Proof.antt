@@ -1,6 +1,5 @@
 -- The counts of an accepted floor. Assumes nothing.
 use borrow.Author.Needs.{needs}
-use mathlib.Core.Path.{_≡_}
 use Rattle.floor.specs.Reader.{answerOf}
 use Rattle.floor.proofs.counted.Statement.{statement}
 use Rattle.floor.proofs.counted.Tie as tie

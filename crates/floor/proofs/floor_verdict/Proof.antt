@@ -1,9 +1,6 @@
 -- The header, then the shape, then the tree and the borders. Assumes nothing.
 use borrow.Author.Needs.{needs}
-use native.Mathlib.Omega.{arith}
-use mathlib.Core.Path.{_≡_, refl, sym, ap, _∙_}
-use mathlib.Core.List.{List}
-use Prim.Native.Nat.{ℕ}
+use mathlib.Core.Path.{refl, ap, _∙_}
 use denote.Ref.{now}
 use Rattle.verdict.specs.Memory.{workSize, clearedTo}
 use Rattle.verdict.proofs.Memory.{cleared-twice}

@@ -1,6 +1,6 @@
 -- The verdict, and the counts where it accepts. Assumes nothing.
 use borrow.Author.Needs.{needs}
-use mathlib.Core.Path.{_≡_, _∙_, ap}
+use mathlib.Core.Path.{_∙_, ap}
 use denote.Ref.{now}
 use Rattle.verdict.specs.declared.Answer.{Answer}
 use Rattle.tables.specs.Parts.{partsOf}

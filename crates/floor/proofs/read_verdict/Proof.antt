@@ -1,7 +1,7 @@
 -- 20, then the rest; the work memory is cleared at the end. Assumes nothing.
 use borrow.Author.Needs.{needs}
 use native.Mathlib.Omega.{arith}
-use mathlib.Core.Path.{_≡_, _∙_}
+use mathlib.Core.Path.{_∙_}
 use denote.Ref.{now}
 use Rattle.floor.proofs.Answers.{too-little, enough}
 use Rattle.floor.proofs.read_verdict.Statement.{statement}

@@ -1,8 +1,7 @@
 -- The rewriter's refusals, and the form where it accepts. Assumes nothing.
 use borrow.Author.Needs.{needs}
 use mathlib.Core.Path.{_≡_, _∙_, ap}
-use mathlib.Core.List.{List}
-use Prim.Native.Nat.{ℕ, _≤_}
+use Prim.Native.Nat.{_≤_}
 use lib.ListN.{length}
 use denote.Ref.{now}
 use Rattle.verdict.specs.Output.{formAnswer, formMemory}

@@ -1,6 +1,5 @@
 -- Rules 7 to 10, then 11 and 12. Assumes nothing.
 use borrow.Author.Needs.{needs}
-use mathlib.Core.Path.{_≡_}
 use Rattle.floor.specs.Groups.{rules7to12}
 use Rattle.floor.proofs.shape_verdict.Statement.{statement}
 use Rattle.floor.proofs.shape_verdict.Tie as tie

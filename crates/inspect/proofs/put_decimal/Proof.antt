@@ -1,7 +1,6 @@
 -- The digits of a number. Assumes nothing.
 use borrow.Author.Needs.{needs}
 use native.Mathlib.Omega.{arith}
-use mathlib.Core.Path.{_≡_}
 use Prim.Native.Nat.{_+_}
 use native.Mathlib.Nat.{add-comm}
 use Rattle.inspect.specs.Line.{digitCount, decimal}

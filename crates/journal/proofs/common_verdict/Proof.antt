@@ -6,7 +6,7 @@ use Rattle.journal.proofs.common_verdict.Tie as tie
 
 returns : tie.Need-returns
 unfolding rule28
-returns c = cc
+returns c = rw (c .then-rule .ensures, c .before .before .header-verdict .ensures, c .before .is-bad .ensures)
 
 pub common-verdict-spec : {M : Type 1} → statement M
 common-verdict-spec = tie.close (tie.spec (search needs) (search needs) (search needs) returns)

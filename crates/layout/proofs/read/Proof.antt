@@ -1,6 +1,6 @@
 -- `layout::read` meets its contract. Assumes nothing.
 use Rattle.text.proofs.SoundLaws.{sound-length}
-use mathlib.Core.Path.{_≡_, refl, sym, ap, _∙_}
+use mathlib.Core.Path.{sym, ap, _∙_}
 use Rattle.verdict.specs.declared.Answer.{Answer}
 use Rattle.layout.proofs.ScanLaws.{answered-unsound, answered-sound}
 use borrow.Author.Needs.{needs}

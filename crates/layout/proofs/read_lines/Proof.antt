@@ -1,9 +1,9 @@
 -- `layout::read_lines` meets its contract. Assumes nothing.
-use mathlib.Core.Path.{_≡_, refl, sym, ap, _∙_}
+use mathlib.Core.Path.{_≡_, refl, sym, _∙_}
 use native.Mathlib.Omega.{arith}
 use borrow.Author.Needs.{needs}
-use Prim.Native.Nat.{ℕ, _+_, _-_, _≤_, _<_}
-use lib.ListN.{length, drop}
+use Prim.Native.Nat.{_+_, _-_, _≤_}
+use lib.ListN.{length}
 use Rattle.text.specs.Class.{isEnd}
 use Rattle.text.proofs.ReadingLaws.{rest, scan-end}
 use Rattle.text.proofs.SplitLaws.{piece-within}

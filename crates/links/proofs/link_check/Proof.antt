@@ -1,6 +1,6 @@
 -- The reader's refusals, the layout's, then 42. Assumes nothing.
 use borrow.Author.Needs.{needs}
-use mathlib.Core.Path.{_≡_, _∙_, ap}
+use mathlib.Core.Path.{_∙_, ap}
 use Prim.Native.Nat.{ℕ}
 use denote.Ref.{now}
 use Rattle.tables.specs.Parts.{partsOf}

@@ -1,7 +1,6 @@
 -- The lowest that leads astray, as a rule. Assumes nothing.
 use borrow.Author.Needs.{needs}
 use native.Mathlib.Omega.{arith}
-use mathlib.Core.Path.{_≡_}
 use Rattle.verdict.specs.Verdict.{ruleOfEach}
 use Rattle.verdict.proofs.Lowest.{lowest-within}
 use Rattle.links.specs.Links.{rule42}

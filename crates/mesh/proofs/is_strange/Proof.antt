@@ -1,6 +1,5 @@
 -- A material over 22. Assumes nothing.
 use borrow.Author.Needs.{needs}
-use mathlib.Core.Path.{_≡_}
 use Rattle.mesh.specs.Faces.{strange}
 use Rattle.mesh.proofs.is_strange.Statement.{statement}
 use Rattle.mesh.proofs.is_strange.Tie as tie

@@ -1,6 +1,5 @@
 -- A float is wild where it is not finite. Assumes nothing.
 use borrow.Author.Needs.{needs}
-use mathlib.Core.Path.{_≡_}
 use Rattle.mesh.specs.Floats.{wild}
 use Rattle.mesh.proofs.is_wild.Statement.{statement}
 use Rattle.mesh.proofs.is_wild.Tie as tie

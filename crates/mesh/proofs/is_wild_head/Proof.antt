@@ -1,6 +1,5 @@
 -- One of the header's floats. Assumes nothing.
 use borrow.Author.Needs.{needs}
-use mathlib.Core.Path.{_≡_}
 use Rattle.mesh.specs.Floats.{wildHead}
 use Rattle.mesh.proofs.is_wild_head.Statement.{statement}
 use Rattle.mesh.proofs.is_wild_head.Tie as tie

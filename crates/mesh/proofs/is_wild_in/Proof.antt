@@ -1,6 +1,5 @@
 -- One of a table's floats. Assumes nothing.
 use borrow.Author.Needs.{needs}
-use mathlib.Core.Path.{_≡_}
 use Rattle.mesh.specs.Floats.{wildIn}
 use Rattle.mesh.proofs.Wild.{split-in}
 use Rattle.mesh.proofs.is_wild_in.Statement.{statement}

@@ -1,8 +1,6 @@
 -- By whether the corner is too large. Assumes nothing.
 use borrow.Author.Needs.{needs}
 use native.Mathlib.Omega.{arith}
-use mathlib.Core.Path.{_≡_, _∙_, ap₂}
-use lib.Dec.{eqb}
 use Rattle.mesh.proofs.Corners.{too-large, by-next}
 use Rattle.mesh.proofs.wrong_corner.Statement.{statement}
 use Rattle.mesh.proofs.wrong_corner.Tie as tie

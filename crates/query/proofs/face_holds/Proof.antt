@@ -1,10 +1,28 @@
 -- The triangle of the three corners. Assumes nothing.
 use borrow.Author.Needs.{needs}
 use mathlib.Core.Path.{_∙_}
-use Rattle.wire.proofs.Signed.{read-is}
+use Rattle.wire.proofs.Signed.{read-is, read-within}
 use Rattle.query.proofs.Reaches.{triangle}
 use Rattle.query.proofs.face_holds.Statement.{statement}
 use Rattle.query.proofs.face_holds.Tie as tie
+
+-- all eight numbers are small; by hand, as the search is slow here
+in-triangle-requires : tie.Need-in-triangle-requires
+in-triangle-requires c κs =
+    let three = c .before .before .before .before .before .before .before .before in
+    let s = three .before .before .before .before in
+    let i = three .before .before .flat-corner .ensures .1 in
+    let j = three .before .flat-corner2 .ensures .1 in
+    let k = three .flat-corner3 .ensures .1 in (
+      read-within (i .0) tt,
+      read-within (i .1) tt,
+      read-within (j .0) tt,
+      read-within (j .1) tt,
+      read-within (k .0) tt,
+      read-within (k .1) tt,
+      read-within (s .pre .1 .x) tt,
+      read-within (s .pre .1 .y) tt,
+    )
 
 returns : tie.Need-returns
 returns c =
@@ -20,4 +38,4 @@ returns c =
     (read-is (s .pre .1 .x) tt) (read-is (s .pre .1 .y) tt) _ (c .in-triangle .ensures)
 
 pub face-holds-spec : {M : Type 1} → statement M
-face-holds-spec = tie.close (tie.spec (λ c κs. search needs) (λ c κs. search needs) (λ c κs. search needs) (λ c κs. search needs) returns)
+face-holds-spec = tie.close (tie.spec (λ c κs. search needs) (λ c κs. search needs) (λ c κs. search needs) in-triangle-requires returns)

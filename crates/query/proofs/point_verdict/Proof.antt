@@ -16,7 +16,15 @@ returns : tie.Need-returns
 unfolding rule29 rule30 ruleOfEach
 returns c =
     let s = c .before .before .before .before .before .before in
-    cc (toZ-ofZ w64 _ (s .fits .x), toZ-ofZ w64 _ (s .fits .y))
+    rw (
+      c .then-rule .ensures,
+      c .before .before .before .first-rule .ensures,
+      c .before .before .before .before .is-in-reach .ensures,
+      toZ-ofZ w64 _ (s .fits .x),
+      toZ-ofZ w64 _ (s .fits .y),
+      c .before .first-off-grid .ensures,
+      c .before .before .count-of .ensures .0,
+    )
 
 pub point-verdict-spec : {M : Type 1} → statement M
 point-verdict-spec = tie.close (tie.spec (search needs) (search needs) (search needs) (search needs) cast-then-rule (search needs) returns)

@@ -1,6 +1,5 @@
 -- `sight::look` meets its contract. Assumes nothing.
-use mathlib.Core.Path.{_≡_, refl, sym, ap, _∙_}
-use native.Mathlib.Omega.{arith}
+use mathlib.Core.Path.{_≡_, sym, ap, _∙_}
 use lib.ListN.{length}
 use Rattle.verdict.specs.declared.Answer.{Answer}
 use Rattle.text.proofs.SoundLaws.{sound-length}

@@ -1,5 +1,5 @@
 -- `sight::read` meets its contract. Assumes nothing.
-use mathlib.Core.Path.{_≡_, refl, sym, ap, _∙_}
+use mathlib.Core.Path.{_≡_, _∙_}
 use lib.ListN.{length}
 use Rattle.sight.proofs.AnswerLaws.{unread}
 use borrow.Author.Needs.{needs}

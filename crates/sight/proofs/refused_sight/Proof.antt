@@ -1,5 +1,5 @@
 -- `sight::refused_sight` meets its contract. Assumes nothing.
-use mathlib.Core.Path.{_≡_, refl, sym, ap, _∙_}
+use mathlib.Core.Path.{refl}
 use Rattle.sight.specs.Code.{noSight}
 use Rattle.sight.proofs.refused_sight.Statement.{statement}
 use Rattle.sight.proofs.refused_sight.Tie as tie

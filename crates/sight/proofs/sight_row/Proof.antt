@@ -1,5 +1,4 @@
 -- `sight::sight_row` meets its contract. Assumes nothing.
-use mathlib.Core.Path.{_≡_, refl, sym, ap, _∙_}
 use Rattle.sight.proofs.AnswerLaws.{row-told, no-row-told}
 use borrow.Author.Needs.{needs}
 use Rattle.sight.proofs.sight_row.Statement.{statement}

@@ -1,16 +1,17 @@
 -- A table's count is that of the parts. Assumes nothing.
 use borrow.Author.Needs.{needs}
 use native.Mathlib.Omega.{arith}
-use mathlib.Core.Path.{_≡_}
+use mathlib.Core.Path.{ap}
 use denote.Ref.{now}
-use Rattle.tables.proofs.Reading.{count-is}
+use Rattle.tables.specs.declared.Table.{Table}
+use Rattle.tables.proofs.Reading.{read-at, count-is}
 use Rattle.tables.proofs.count_of.Statement.{statement}
 use Rattle.tables.proofs.count_of.Tie as tie
 
 returns : tie.Need-returns
 returns c =
     let s = c .before .before .before in
-    (cc (count-is (now (s .args .bytes)) (s .args .k) (s .pre .1)), omega arith)
+    (read-at _ (c .u32-at .ensures) (ap (λ (t : Table). t .count) (c .before .table-at .ensures .0)) (count-is (now (s .args .bytes)) (s .args .k) (s .pre .1)), omega arith)
 
 pub count-of-spec : {M : Type 1} → statement M
 count-of-spec = tie.close (tie.spec (search needs) (search needs) (search needs) returns)

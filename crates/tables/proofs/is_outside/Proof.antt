@@ -1,4 +1,3 @@
-use native.Mathlib.Omega.{arith}
 use borrow.Author.Tests.{le-ltb, lt-ltb}
 use Rattle.tables.specs.Tables.{outside}
 use Rattle.tables.proofs.is_outside.Statement.{statement}

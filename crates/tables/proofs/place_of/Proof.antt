@@ -1,7 +1,6 @@
 -- A word's place is past its entry's, and inside the file. Assumes nothing.
 use borrow.Author.Needs.{needs}
 use native.Mathlib.Omega.{arith}
-use mathlib.Core.Path.{_≡_}
 use denote.Ref.{now}
 use Rattle.tables.proofs.Floor.{floor-in-header}
 use Rattle.tables.proofs.Right.{header-met}

@@ -1,6 +1,6 @@
 use borrow.Author.Needs.{needs}
 use Prim.Native.Nat.{_-_}
-use mathlib.Core.Path.{_≡_, sym}
+use mathlib.Core.Path.{_≡_}
 use Rattle.verdict.specs.Lowest.{lowest}
 use Rattle.tables.specs.Tables.{tableAt, spanOf, shares, sharesEarlier}
 use Rattle.tables.specs.Header.{floorTables}

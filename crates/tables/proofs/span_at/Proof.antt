@@ -1,6 +1,5 @@
 use native.Mathlib.Omega.{arith}
-use mathlib.Core.Path.{_≡_}
-use Rattle.tables.specs.Tables.{spanOf, tableAt}
+use Rattle.tables.specs.Tables.{spanOf}
 use Rattle.tables.proofs.Floor.{product-fits}
 use borrow.Author.Needs.{needs}
 use Rattle.tables.proofs.span_at.Statement.{statement}

@@ -1,6 +1,7 @@
-use borrow.Author.Needs.{needs}
+-- Byte by byte, up to the first that differs. Assumes nothing.
+use native.Mathlib.Omega.{arith}
 use Prim.Native.Nat.{_-_}
-use mathlib.Core.Path.{_≡_, sym}
+use mathlib.Core.Path.{_≡_}
 use Rattle.verdict.specs.Lowest.{lowest}
 use borrow.Author.Tests.{eq-eqb, ne-eqb}
 use Rattle.tables.specs.Header.{magic, differs, startsWrong}
@@ -19,7 +20,7 @@ loop-holds c = lowest-none _
 
 returns : tie.Need-returns Inv-loop μ-loop
 unfolding startsWrong differs
-returns c = any-hit _ _ 8 (c .before .before .before .loop .inv) (simp (ne-eqb _ _ (c .if1 .taken))) (search needs)
+returns c = any-hit _ _ 8 (c .before .before .before .loop .inv) (simp (ne-eqb _ _ (c .if1 .taken))) (omega arith)
 
 loop-again : tie.Need-loop-again Inv-loop μ-loop
 unfolding differs
@@ -27,9 +28,9 @@ loop-again c = lowest-more _ _ (c .before .before .before .loop .inv) (simp (eq-
 
 returns-2 : tie.Need-returns-2 Inv-loop μ-loop
 unfolding startsWrong
-returns-2 c = any-none _ _ 8 (c .before .loop .inv) (search needs)
+returns-2 c = any-none _ _ 8 (c .before .loop .inv) (omega arith)
 
 pub starts-wrong-spec : {M : Type 1} → statement M
 starts-wrong-spec =
     tie.close
-    (tie.spec Inv-loop μ-loop loop-holds (search needs) (search needs) returns (search needs) (search needs) loop-again returns-2)
+    (tie.spec Inv-loop μ-loop loop-holds (λ c. omega arith) (λ c. omega arith) returns (λ c. omega arith) (λ c. omega arith) loop-again returns-2)

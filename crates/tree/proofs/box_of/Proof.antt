@@ -1,6 +1,5 @@
 -- The six words are finite floats. Assumes nothing.
 use borrow.Author.Needs.{needs}
-use mathlib.Core.Path.{_≡_}
 use Rattle.tree.specs.Boxes.{boxOf}
 use Rattle.tree.proofs.Held.{box-finite}
 use Rattle.tree.proofs.box_of.Statement.{statement}
@@ -21,7 +20,16 @@ box-of-bits-requires c κs =
 
 returns : tie.Need-returns
 unfolding boxOf
-returns c = cc
+returns c =
+    rw (
+      c .box-of-bits .ensures,
+      c .before .before .before .before .before .before .word-of .ensures,
+      c .before .before .before .before .before .word-of2 .ensures,
+      c .before .before .before .before .word-of3 .ensures,
+      c .before .before .before .word-of4 .ensures,
+      c .before .before .word-of5 .ensures,
+      c .before .word-of6 .ensures,
+    )
 
 pub box-of-spec : {M : Type 1} → statement M
 box-of-spec = tie.close (tie.spec (search needs) (search needs) (search needs) (search needs) (search needs) (search needs) box-of-bits-requires returns)

@@ -1,6 +1,5 @@
 -- A corner is a vertex. Assumes nothing.
 use borrow.Author.Needs.{needs}
-use mathlib.Core.Path.{_≡_}
 use Rattle.tree.specs.Boxes.{holdsCorner}
 use Rattle.tree.proofs.holds_corner.Statement.{statement}
 use Rattle.tree.proofs.holds_corner.Tie as tie

@@ -1,5 +1,4 @@
 -- `first_rule` is `rule`. Assumes nothing.
-use mathlib.Core.Path.{_≡_}
 use Rattle.verdict.specs.Verdict.{rule}
 use Rattle.verdict.proofs.first_rule.Statement.{statement}
 use Rattle.verdict.proofs.first_rule.Tie as tie

@@ -1,5 +1,5 @@
 -- `then_rule` is `then` with one rule more. Assumes nothing.
-use mathlib.Core.Path.{_≡_, sym, _∙_}
+use mathlib.Core.Path.{sym, _∙_}
 use borrow.Author.Needs.{needs}
 use Rattle.verdict.proofs.Verdict.{then-next, then-stop}
 use Rattle.verdict.proofs.then_rule.Statement.{statement}

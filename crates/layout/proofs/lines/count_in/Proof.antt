@@ -1,5 +1,5 @@
 -- `layout::lines::count_in` meets its contract. Assumes nothing.
-use mathlib.Core.Path.{_≡_, refl, sym, ap, _∙_}
+use mathlib.Core.Path.{sym, _∙_}
 use Rattle.layout.proofs.LineLaws.{count-in-some, count-in-none}
 use borrow.Author.Needs.{needs}
 use Rattle.layout.proofs.lines.count_in.Statement.{statement}

@@ -1,10 +1,6 @@
 -- `layout::lines::count_right` meets its contract. Assumes nothing.
-use mathlib.Core.Path.{_≡_, refl, sym, ap, _∙_}
+use mathlib.Core.Path.{sym, _∙_}
 use Rattle.layout.proofs.LineLaws.{count-of-hooks, count-of-others, count-wrong}
-use Rattle.layout.specs.Grammar.{countRight}
-use Prim.Native.Nat.{ℕ}
-use Rattle.number.specs.Count.{value}
-use lib.Dec.{eqb}
 use borrow.Author.Needs.{needs}
 use Rattle.layout.proofs.lines.count_right.Statement.{statement}
 use Rattle.layout.proofs.lines.count_right.Tie as tie

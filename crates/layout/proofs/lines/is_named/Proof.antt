@@ -1,5 +1,4 @@
 -- `layout::lines::is_named` meets its contract. Assumes nothing.
-use mathlib.Core.Path.{_≡_, refl, sym, ap, _∙_}
 use Rattle.layout.proofs.HeldLaws.{named-not, named-by, named-asked}
 use borrow.Author.Needs.{needs}
 use Rattle.layout.proofs.lines.is_named.Statement.{statement}

@@ -1,7 +1,5 @@
 -- `layout::lines::is_placed` meets its contract. Assumes nothing.
-use mathlib.Core.Path.{_≡_, refl, sym, ap, _∙_}
 use Rattle.layout.proofs.LineLaws.{placed-no1, placed-no2, placed-by3}
-use mathlib.Core.Bool.{true, false}
 use borrow.Author.Needs.{needs}
 use Rattle.layout.proofs.lines.is_placed.Statement.{statement}
 use Rattle.layout.proofs.lines.is_placed.Tie as tie

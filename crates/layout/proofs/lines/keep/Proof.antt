@@ -1,7 +1,7 @@
 -- `layout::lines::keep` meets its contract. Assumes nothing.
 use native.Mathlib.Omega.{arith}
 use Rattle.layout.proofs.HeldLaws.{kept-none, kept-some}
-use Prim.Native.Nat.{ℕ, _<_}
+use Prim.Native.Nat.{_<_}
 use Rattle.layout.specs.Starts.{slotOf}
 use borrow.Author.Needs.{needs}
 use Rattle.layout.proofs.lines.keep.Statement.{statement}

@@ -1,5 +1,4 @@
 -- `layout::lines::line_fault` meets its contract. Assumes nothing.
-use mathlib.Core.Path.{_≡_, refl, sym, ap, _∙_}
 use Rattle.layout.specs.Starts.{stateOf}
 use Rattle.layout.proofs.FaultLaws.{fault-blank, fault-entry, fault-open}
 use borrow.Author.Needs.{needs}

@@ -1,6 +1,6 @@
 -- `layout::lines::moved` meets its contract. Assumes nothing.
 use Rattle.layout.proofs.HeldLaws.{moved-blank, moved-entry, moved-open}
-use mathlib.Core.Path.{_≡_, refl, sym, ap, _∙_}
+use mathlib.Core.Path.{sym, _∙_}
 use borrow.Author.Needs.{needs}
 use Rattle.layout.proofs.lines.moved.Statement.{statement}
 use Rattle.layout.proofs.lines.moved.Tie as tie

@@ -1,9 +1,6 @@
 -- `layout::lines::open_fault` meets its contract. Assumes nothing.
-use mathlib.Core.Path.{_≡_, refl, sym, ap, _∙_}
 use Rattle.layout.proofs.LineLaws.{open-nothing, open-unlike, open-single, open-counted}
 use mathlib.Core.Bool.{true, false}
-use Prim.Native.Nat.{ℕ}
-use Rattle.layout.specs.Grammar.{openFault}
 use borrow.Author.Needs.{needs}
 use Rattle.layout.proofs.lines.open_fault.Statement.{statement}
 use Rattle.layout.proofs.lines.open_fault.Tie as tie

@@ -1,5 +1,5 @@
 -- `layout::lines::section_of` meets its contract: each keyword in turn. Assumes nothing.
-use mathlib.Core.Path.{_≡_, refl, sym, ap, _∙_}
+use mathlib.Core.Path.{sym, _∙_}
 use Rattle.layout.proofs.LineLaws.{section-1, section-2, section-3, section-4, section-5, section-6, section-0}
 use Rattle.layout.specs.Grammar.{beginlayout, roomcount, trackcount, obstaclecount, doorhookcount, donelayout}
 use borrow.Author.Needs.{needs}

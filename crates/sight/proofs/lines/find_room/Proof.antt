@@ -1,8 +1,8 @@
 -- `sight::lines::find_room` meets its contract. Assumes nothing.
-use mathlib.Core.Path.{_≡_, refl, sym, ap, _∙_}
+use mathlib.Core.Path.{_≡_, ap, _∙_}
 use native.Mathlib.Omega.{arith}
 use borrow.Author.Needs.{needs}
-use Prim.Native.Nat.{ℕ, _-_, _≤_}
+use Prim.Native.Nat.{_-_, _≤_}
 use mathlib.Core.Bool.{true, false}
 use Rattle.verdict.specs.Lowest.{lowest}
 use Rattle.verdict.proofs.Lowest.{lowest-none, lowest-more}

@@ -1,5 +1,5 @@
 -- `sight::lines::line_fault` meets its contract. Assumes nothing.
-use mathlib.Core.Path.{_≡_, refl, sym, ap, _∙_}
+use mathlib.Core.Path.{_≡_, sym, _∙_}
 use Rattle.text.specs.Scan.{words}
 use Rattle.sight.specs.Grammar.{observerFault}
 use Rattle.sight.proofs.FaultLaws.{line-blank, line-seen, line-observer}

@@ -1,5 +1,5 @@
 -- `sight::lines::mark` meets its contract. Assumes nothing.
-use mathlib.Core.Path.{_≡_, refl, sym, ap, _∙_}
+use mathlib.Core.Path.{sym, _∙_}
 use native.Mathlib.Omega.{arith}
 use Rattle.sight.proofs.StepLaws.{rows-blank, rows-kept, rows-marked}
 use borrow.Author.Needs.{needs}

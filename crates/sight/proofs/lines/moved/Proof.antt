@@ -1,5 +1,5 @@
 -- `sight::lines::moved` meets its contract. Assumes nothing.
-use mathlib.Core.Path.{_≡_, refl, sym, ap, _∙_}
+use mathlib.Core.Path.{sym, ap, _∙_}
 use native.Mathlib.Omega.{arith}
 use Rattle.number.specs.Count.{isCount}
 use Rattle.sight.proofs.StepLaws.{moved-blank, moved-seen, moved-observer}

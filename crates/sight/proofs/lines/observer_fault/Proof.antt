@@ -1,5 +1,5 @@
 -- `sight::lines::observer_fault` meets its contract. Assumes nothing.
-use mathlib.Core.Path.{_≡_, refl, sym, ap, _∙_}
+use mathlib.Core.Path.{sym, ap, _∙_}
 use Rattle.text.specs.Name.{isName}
 use Rattle.number.specs.Count.{isCount}
 use Rattle.sight.proofs.FaultLaws.{observer-33, observer-34, observer-36, observer-room}

@@ -1,5 +1,5 @@
 -- `sight::lines::room_fault` meets its contract. Assumes nothing.
-use mathlib.Core.Path.{_≡_, refl, sym, ap, _∙_}
+use mathlib.Core.Path.{sym, _∙_}
 use native.Mathlib.Omega.{arith}
 use Rattle.sight.proofs.FaultLaws.{room-37, room-39, room-right}
 use borrow.Author.Needs.{needs}

@@ -1,5 +1,5 @@
 -- `sight::lines::room_of` meets its contract. Assumes nothing.
-use mathlib.Core.Path.{_≡_, refl, sym, ap, _∙_}
+use mathlib.Core.Path.{sym, _∙_}
 use Rattle.sight.proofs.FindLaws.{no-name-no-room}
 use borrow.Author.Needs.{needs}
 use Rattle.sight.proofs.lines.room_of.Statement.{statement}

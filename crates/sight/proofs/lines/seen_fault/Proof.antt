@@ -1,5 +1,5 @@
 -- `sight::lines::seen_fault` meets its contract. Assumes nothing.
-use mathlib.Core.Path.{_≡_, refl, sym, ap, _∙_}
+use mathlib.Core.Path.{sym, ap, _∙_}
 use Rattle.text.specs.Name.{isName}
 use Rattle.sight.proofs.FaultLaws.{seen-33, seen-34, seen-room}
 use borrow.Author.Needs.{needs}

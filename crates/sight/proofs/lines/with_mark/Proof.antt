@@ -1,6 +1,4 @@
 -- `sight::lines::with_mark` meets its contract. Assumes nothing.
-use mathlib.Core.Path.{_≡_, refl, sym, ap, _∙_}
-use mir.Val.{Fits}
 use Rattle.sight.proofs.MarkLaws.{shifted, mark-fits}
 use borrow.Author.Needs.{needs}
 use Rattle.sight.proofs.lines.with_mark.Statement.{statement}

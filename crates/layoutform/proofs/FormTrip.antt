@@ -1,0 +1,129 @@
+-- The fixed form's text is accepted and read as the same parts, with six places; a second rewriting changes no byte. Assumes nothing.
+use mathlib.Core.Path.{_≡_, refl, ap, _∙_}
+use mathlib.Core.Bool.{Bool, true, false, _||_}
+use mathlib.Core.List.{List, [], _∷_, _++_, map}
+use Prim.Native.Nat.{ℕ, _≤_}
+use native.Mathlib.Omega.{arith}
+use lib.Dec.{ltb}
+use lib.ListN.{length, length-map}
+use borrow.Author.Tests.{le-ltb}
+use Rattle.verdict.specs.declared.Answer.{Answer}
+use Rattle.verdict.specs.Verdict.{accepted, rule}
+use Rattle.text.specs.Class.{classOf, nameByte}
+use Rattle.text.specs.Scan.{run}
+use Rattle.text.specs.Sound.{rules31to32}
+use Rattle.text.specs.Name.{isName}
+use Rattle.text.proofs.WrittenLaws.{AllLines, Plain, written-read, written-sound}
+use Rattle.text.proofs.WordLaws.{name-plain}
+use Rattle.number.proofs.WordLaws.{count-plain}
+use Rattle.text.specs.Reading.{Word, Line}
+use Rattle.layout.specs.Grammar.{Reading, start, readFrom, beginlayout, roomcount, trackcount, obstaclecount, doorhookcount, donelayout}
+use Rattle.layout.specs.Layout.{grammar, layoutVerdict, layoutOf}
+use Rattle.layoutform.specs.Form.{Entry, LayoutParts, partsOfTyped, partsOf, sixedParts, sixedEntry, entryLine, section, form, formText}
+use Rattle.text.specs.Written.{rule40}
+use Rattle.layout.proofs.EachLaws.{Each}
+use Rattle.layout.proofs.ReadLaws.{verdict-sound, layout-accepted}
+use Rattle.layoutform.proofs.PartLaws.{GoodEntry, GoodParts, parts-good, line-plain, lines-again, lines-sixed}
+use Rattle.layoutform.proofs.FormLaws.{formTyped, form-lines}
+use Rattle.layoutform.proofs.LengthLaws.{form-short}
+
+-- ---- the form can be written
+
+all-lines : (a b : List Line) → AllLines a → AllLines b → AllLines (a ++ b)
+all-lines [] b p q = q
+all-lines (l ∷ a) b (h, p) q = (h, all-lines a b p q)
+
+entries-plain : (es : List Entry) → Each GoodEntry es → AllLines (map entryLine es)
+entries-plain [] g = tt
+entries-plain (e ∷ es) (g, h) = (line-plain e g, entries-plain es h)
+
+section-plain : (key : Word) (es : List Entry) → Plain key → Each GoodEntry es → AllLines (section key es)
+unfolding section
+section-plain key es k g = ((k, (count-plain (length es), tt)), entries-plain es g)
+
+plain-first : Plain beginlayout
+unfolding beginlayout isName nameByte classOf run
+plain-first = name-plain _ refl
+
+plain-rooms : Plain roomcount
+unfolding roomcount isName nameByte classOf run
+plain-rooms = name-plain _ refl
+
+plain-tracks : Plain trackcount
+unfolding trackcount isName nameByte classOf run
+plain-tracks = name-plain _ refl
+
+plain-obstacles : Plain obstaclecount
+unfolding obstaclecount isName nameByte classOf run
+plain-obstacles = name-plain _ refl
+
+plain-hooks : Plain doorhookcount
+unfolding doorhookcount isName nameByte classOf run
+plain-hooks = name-plain _ refl
+
+plain-last : Plain donelayout
+unfolding donelayout isName nameByte classOf run
+plain-last = name-plain _ refl
+
+form-plain : (p : LayoutParts) → GoodParts p → AllLines (form p)
+unfolding form
+form-plain p g = (
+  (plain-first, tt),
+  all-lines (section roomcount (p .rooms)) _ (section-plain roomcount (p .rooms) plain-rooms (g .rooms))
+      (all-lines (section trackcount (p .tracks)) _ (section-plain trackcount (p .tracks) plain-tracks (g .tracks))
+      (all-lines (section obstaclecount (p .obstacles)) _ (section-plain obstaclecount (p .obstacles) plain-obstacles (g .obstacles))
+      (all-lines (section doorhookcount []) _ (section-plain doorhookcount [] plain-hooks tt) ((plain-last, tt), tt)))),
+)
+
+-- ---- right parts, written and read
+
+module _ (p : LayoutParts) (g : GoodParts p) where
+  form-grammar : grammar (formText p) ≡ record { verdict = accepted; typed = formTyped p }
+  unfolding grammar formText
+  form-grammar = ap (readFrom 0 start) (written-read (form p) (form-plain p g)) ∙ form-lines p g
+
+  form-sound : rules31to32 (formText p) ≡ accepted
+  unfolding formText
+  form-sound = written-sound (form p) (form-plain p g) (omega (arith, form-short p g))
+
+  pub good-accepted : layoutVerdict (formText p) ≡ accepted
+  good-accepted = verdict-sound (formText p) (ap (λ (a : Answer). a .number) form-sound) ∙ ap (λ (r : Reading). r .verdict) form-grammar
+
+  pub good-typed-again : layoutOf (formText p) ≡ formTyped p
+  good-typed-again = layout-accepted (formText p) (ap (λ (a : Answer). a .number) good-accepted) ∙ ap (λ (r : Reading). r .typed) form-grammar
+
+  pub good-again : partsOf (formText p) ≡ sixedParts p
+  unfolding partsOf partsOfTyped sixedParts formTyped
+  good-again = ap partsOfTyped good-typed-again ∙ rw (lines-again (p .rooms) (g .rooms), lines-again (p .tracks) (g .tracks), lines-again (p .obstacles) (g .obstacles))
+
+  -- the form is never over 65,536 bytes: 40 is for an output that is too short alone
+  pub short-40 : (room : ℕ) → rule40 (formText p) room ≡ rule 40 (ltb room (length (formText p))) 0
+  unfolding rule40
+  short-40 room = ap (λ t. rule 40 t 0) (rw (le-ltb 65536 (length (formText p)) (omega (arith, form-short p g))) (or-no (ltb room (length (formText p)))))
+    where
+      or-no : (t : Bool) → (t || false) ≡ t
+      or-no true = refl
+      or-no false = refl
+
+-- six places are written as they were
+pub sixed-form : (p : LayoutParts) → formText (sixedParts p) ≡ formText p
+unfolding formText form section sixedParts
+sixed-form p =
+    rw (length-map (p .rooms) sixedEntry, length-map (p .tracks) sixedEntry, length-map (p .obstacles) sixedEntry, lines-sixed (p .rooms), lines-sixed (p .tracks), lines-sixed (p .obstacles))
+
+-- ---- the theorems, for the parts of every text
+
+-- the form's text is accepted ..
+pub form-accepted : (s : List ℕ) → layoutVerdict (formText (partsOf s)) ≡ accepted
+form-accepted s = good-accepted (partsOf s) (parts-good s)
+
+-- .. and read as the same parts: names, signs and millionths, each number now with six places
+pub form-read : (s : List ℕ) → partsOf (formText (partsOf s)) ≡ sixedParts (partsOf s)
+form-read s = good-again (partsOf s) (parts-good s)
+
+-- a second rewriting changes no byte
+pub form-twice : (s : List ℕ) → formText (partsOf (formText (partsOf s))) ≡ formText (partsOf s)
+form-twice s = ap formText (form-read s) ∙ sixed-form (partsOf s)
+
+pub form-within : (s : List ℕ) → length (formText (partsOf s)) ≤ 12000
+form-within s = form-short (partsOf s) (parts-good s)

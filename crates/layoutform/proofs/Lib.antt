@@ -1,0 +1,10 @@
+pub mod PartLaws
+pub mod FormLaws
+pub mod LengthLaws
+pub mod FormTrip
+pub mod RenameLaws
+pub mod PrintLaws
+pub mod WholeLaws
+pub mod AnswerLaws
+pub mod Promises
+pub mod Examples

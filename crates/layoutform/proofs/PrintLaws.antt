@@ -1,0 +1,129 @@
+-- What the printers write, put together, and how far they come. Assumes nothing.
+use mathlib.Core.Path.{_≡_, refl, sym, ap, _∙_}
+use mathlib.Core.Bool.{Bool, true, false, cond}
+use mathlib.Core.List.{List, [], _∷_, _++_, map, map-append, append-assoc, append-nil}
+use Prim.Native.Nat.{ℕ, suc, _+_, _≤_, _<_}
+use native.Mathlib.Numerals.{add-one}
+use native.Mathlib.Omega.{arith}
+use native.Mathlib.Decide.{ℕ-discrete}
+use lib.Dec.{eqb}
+use lib.ListN.{length, getD, take, length-map}
+use lib.Seq.{take-suc, take-all}
+use borrow.Author.Tests.{eq-eqb, ne-eqb}
+use Rattle.verdict.proofs.Bools.{decided}
+use Rattle.verdict.proofs.Lists.{map-at}
+use Rattle.number.specs.declared.Num.{Num}
+use Rattle.text.specs.Scan.{words, lineAt}
+use Rattle.text.specs.Name.{lowered}
+use Rattle.number.specs.Number.{numberOf, printed, plain, sixed}
+use Rattle.text.specs.Write.{Wrote}
+use Rattle.text.specs.Written.{after, spaced, written}
+use Rattle.text.proofs.NameLaws.{name-long, length-lowered}
+use Rattle.text.proofs.WriteLaws.{wrote-none, wrote-then, wrote-is}
+use Rattle.text.specs.Reading.{Word, Line, nth}
+use Rattle.layoutform.specs.Form.{Entry, entryOf, entryLine, section}
+use Rattle.layoutform.specs.Rewrite.{entryNamed, renamedAt}
+use Rattle.layout.specs.Starts.{entryAt, held, NamedFrom}
+use Rattle.layout.proofs.HeldLaws.{held-long, held-at}
+use Rattle.layoutform.proofs.LengthLaws.{written-append, written-long, numbers-short, number-short}
+use Rattle.layoutform.proofs.RenameLaws.{renamed-long, renamed-here, renamed-other}
+
+-- ---- one line's bytes
+
+pub key-bytes : (key : Word) → key ++ (10 ∷ []) ≡ written ((key ∷ []) ∷ [])
+unfolding written spaced after
+key-bytes key = simp (append-nil)
+
+pub head-bytes : (key p : Word) → key ++ ((32 ∷ []) ++ (p ++ (10 ∷ []))) ≡ written ((key ∷ p ∷ []) ∷ [])
+unfolding written spaced after
+head-bytes key p = simp (append-nil, append-assoc)
+
+pub entry-bytes : (w a b c : Word) → w ++ ((32 ∷ a) ++ ((32 ∷ b) ++ ((32 ∷ c) ++ (10 ∷ [])))) ≡ written ((w ∷ a ∷ b ∷ c ∷ []) ∷ [])
+unfolding written spaced after
+entry-bytes w a b c = simp (append-nil, append-assoc)
+
+-- ---- a number
+
+pub six-places : (x y : Num) → y ≡ sixed x → y .places ≤ 6
+unfolding sixed
+six-places x y e = omega (arith, ap (λ (z : Num). z .places) e)
+
+pub coordinate-wrote : {a b c : List ℕ} {i j k : ℕ} (l : List ℕ) (n : ℕ) (u : Word) (x y : Num) → u ≡ nth (words l) n → x ≡ numberOf u → y ≡ sixed x → Wrote a b i j (32 ∷ []) → Wrote b c j k (printed y) → Wrote a c i k (32 ∷ printed (sixed (numberOf (nth (words l) n))))
+coordinate-wrote l n u x y eu ex ey p q = wrote-is _ (wrote-then p q) (rw (ey, ex, eu))
+
+pub coordinate-end : {a b : List ℕ} {i j : ℕ} (x : Num) → Wrote a b i j (32 ∷ printed (sixed x)) → j ≤ i + 14
+coordinate-end x w = omega (arith, w .next, number-short x)
+
+-- ---- an entry
+
+pub named-other : {a b : List ℕ} {i j : ℕ} (t : Bool) (name u : Word) (l : List ℕ) → t ≡ true → Wrote a b i j (written (entryLine (entryNamed name (words l)) ∷ [])) → Wrote a b i j (written (entryLine (entryNamed (cond t name (nth (words l) 0)) (words l)) ∷ []))
+named-other t name u l e w = rw e w
+
+pub named-own : {a b : List ℕ} {i j : ℕ} (t : Bool) (name u : Word) (l : List ℕ) → t ≡ false → u ≡ nth (words l) 0 → Wrote a b i j (written (entryLine (entryNamed u (words l)) ∷ [])) → Wrote a b i j (written (entryLine (entryNamed (cond t name (nth (words l) 0)) (words l)) ∷ []))
+named-own t name u l e eu w = rw (e, ← eu) w
+
+pub entry-end : {a b : List ℕ} {i j : ℕ} (w : Word) (l : Line) → length w ≤ 16 → Wrote a b i j (written (entryLine (entryNamed w l) ∷ [])) → j ≤ i + 59
+unfolding entryLine entryNamed
+entry-end w l h q =
+    let line = lowered w ∷ printed (sixed (numberOf (nth l 1))) ∷ printed (sixed (numberOf (nth l 2))) ∷ printed (sixed (numberOf (nth l 3))) ∷ [] in
+    let m : length (spaced line) ≤ 58 = numbers-short (lowered w) (numberOf (nth l 1)) (numberOf (nth l 2)) (numberOf (nth l 3)) (omega (arith, length-lowered w)) in
+    let z : length (written (line ∷ [])) ≡ suc (length (spaced line) + length (written [])) = written-long line [] in
+    let o : length (written []) ≡ 0 = unfold written in refl in
+    omega (arith, q .next)
+
+either-short : (t : Bool) (v w : Word) → length v ≤ 16 → length w ≤ 16 → length (cond t v w) ≤ 16
+either-short true v w h k = h
+either-short false v w h k = k
+
+-- ---- the entries of a section
+
+module _ (s starts : List ℕ) (from n i : ℕ) (name : Word) (room : from + n ≤ length starts) (named : NamedFrom s starts from n) (short : length name ≤ 16) where
+  -- the entries that are written
+  abbrev es : List Entry
+  es = renamedAt (map entryOf (held s starts from n)) i (lowered name)
+
+  pub entries-long : length es ≡ n
+  entries-long = renamed-long (map entryOf (held s starts from n)) i (lowered name) ∙ length-map (held s starts from n) entryOf ∙ held-long s starts from n room
+
+  own-short : (j : ℕ) → j < n → length (nth (entryAt s (getD starts (from + j) 0)) 0) ≤ 16
+  own-short j l = name-long _ (named .name j l) .1
+
+  pub asked-short : (j : ℕ) (l : List ℕ) → j < n → l ≡ lineAt s (getD starts (from + j) 0) → length (nth (words l) 0) ≤ 16
+  asked-short j l h e = rw e (own-short j h)
+
+  own : (j : ℕ) → j < n → getD (map entryOf (held s starts from n)) j (entryOf []) ≡ entryOf (entryAt s (getD starts (from + j) 0))
+  own j h = map-at entryOf [] (entryOf []) (held s starts from n) j (omega (arith, held-long s starts from n room)) ∙ ap entryOf (held-at s starts from n j room h)
+
+  -- entry j
+  pub entry-is : (j : ℕ) (l : List ℕ) → j < n → l ≡ lineAt s (getD starts (from + j) 0) → getD es j (entryOf []) ≡ entryNamed (cond (eqb j i) name (nth (words l) 0)) (words l)
+  unfolding entryNamed entryOf
+  entry-is j l h e =
+      let k : j < length (map entryOf (held s starts from n)) = omega (arith, length-map (held s starts from n) entryOf, held-long s starts from n room) in
+      decided (ℕ-discrete j i)
+      (λ (q : j ≡ i).
+      let m : i < length (map entryOf (held s starts from n)) = omega arith in
+      rw (eq-eqb j i q, e, q, renamed-here (map entryOf (held s starts from n)) i (lowered name) (entryOf []) m, ← q, own j h))
+      (λ (q : j ≡ i → ⊥). rw (ne-eqb j i q, renamed-other (map entryOf (held s starts from n)) i j (lowered name) (entryOf []) q, own j h, e))
+
+  pub entries-start : (l : List ℕ) (at : ℕ) → Wrote l l at at (written (map entryLine (take 0 es)))
+  unfolding written
+  entries-start l at = wrote-none l at
+
+  module _ {a b c : List ℕ} {at e k : ℕ} (j : ℕ) (l : List ℕ) (h : j < n) (el : l ≡ lineAt s (getD starts (from + j) 0)) (p : Wrote a b at e (written (map entryLine (take j es)))) (q : Wrote b c e k (written (entryLine (entryNamed (cond (eqb j i) name (nth (words l) 0)) (words l)) ∷ []))) where
+    pub entries-more : Wrote a c at k (written (map entryLine (take (j + 1) es)))
+    entries-more =
+        let m : j < length es = omega (arith, entries-long) in
+        rw (add-one j, take-suc es j (entryOf []) m, map-append entryLine (take j es) (getD es j (entryOf []) ∷ []), written-append (map entryLine (take j es)) (entryLine (getD es j (entryOf [])) ∷ []), entry-is j l h el)
+        (wrote-then p q)
+
+    pub entries-further : k ≤ e + 59
+    entries-further = entry-end _ (words l) (either-short (eqb j i) name (nth (words l) 0) short (asked-short j l h el)) q
+
+  pub entries-done : {a b : List ℕ} {at e : ℕ} (j : ℕ) → n ≤ j → Wrote a b at e (written (map entryLine (take j es))) → Wrote a b at e (written (map entryLine es))
+  entries-done j h p = rw (take-all j es (omega (arith, entries-long))) at p
+
+  -- a keyword with its count, and the entries
+  pub section-wrote : {a b c : List ℕ} {at e k : ℕ} (key : Word) → Wrote a b at e (written ((key ∷ plain n ∷ []) ∷ [])) → Wrote b c e k (written (map entryLine es)) → Wrote a c at k (written (section key es))
+  unfolding section
+  section-wrote key p q =
+      wrote-is _ (wrote-then p q) (sym (written-append ((key ∷ plain n ∷ []) ∷ []) (map entryLine es)) ∙ rw entries-long)

@@ -1,0 +1,52 @@
+-- `layoutform::layout_rename` meets its contract. Assumes nothing.
+use mathlib.Core.Path.{_≡_, refl}
+use lib.ListN.{length}
+use borrow.Author.Needs.{needs}
+use Rattle.layoutform.proofs.AnswerLaws.{rename-refused, rename-unnamed, rename-name, rename-short, rename-by}
+use Rattle.layoutform.proofs.layout_rename.Statement.{statement}
+use Rattle.layoutform.proofs.layout_rename.Tie as tie
+
+-- the array has its places
+sized : (c : tie.After-read) → length (c .read .result .starts) ≡ 192
+sized c = search needs
+
+read-requires : tie.Need-read-requires
+read-requires c κs = search needs
+
+returns : tie.Need-returns
+returns c =
+    let r = c .before .before in
+    rename-refused _ _ (sized r) (r .read .ensures) _ _ _ _ refl (c .if1 .taken)
+
+name-verdict-requires : tie.Need-name-verdict-requires
+name-verdict-requires c κs = search needs
+
+returns-2 : tie.Need-returns-2
+returns-2 c =
+    let r = c .before .before .before .before .before in
+    rename-unnamed _ _ (sized r) (r .read .ensures) _ _ _ _ (c .before .before .name-verdict .ensures) (c .before .before .before .if1 .left) (c .if2 .taken)
+
+write-form-requires : tie.Need-write-form-requires
+write-form-requires c κs =
+    let r = c .before .before .before .before .before .before in
+    ((r .read .ensures .held, rename-name _ _ (sized r) (r .read .ensures) _ _ (c .before .before .before .before .before .before .before .before .before .before .args .out .now) _ (c .before .before .before .name-verdict .ensures) (c .before .before .before .before .if1 .left) (c .before .if2 .left)), rename-short _ _ (sized r) (r .read .ensures) _ _ (c .before .before .before .before .before .before .before .before .before .before .args .out .now) _ (c .before .before .before .name-verdict .ensures) (c .before .before .before .before .if1 .left) (c .before .if2 .left))
+
+same-length : tie.Need-same-length
+same-length c = search needs
+
+returns-3 : tie.Need-returns-3
+returns-3 c =
+    let r = c .before .before .before .before .before .before .before .before .before in
+    rename-by _ _ (sized r) (r .read .ensures) _ _ (c .before .before .before .before .before .before .before .before .before .before .before .before .before .args .out .now) _ (c .before .before .before .before .before .before .name-verdict .ensures) (c .before .before .before .before .before .before .before .if1 .left) (c .before .before .before .before .if2 .left) _ _ (c .before .before .write-form .ensures)
+
+pub layout-rename-spec : {M : Type 1} → statement M
+layout-rename-spec =
+    tie.close
+    (tie.spec
+    read-requires
+    returns
+    name-verdict-requires
+    returns-2
+    write-form-requires
+    same-length
+    returns-3)

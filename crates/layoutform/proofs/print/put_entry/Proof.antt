@@ -1,0 +1,37 @@
+-- `layoutform::print::put_entry` meets its contract. Assumes nothing.
+use native.Mathlib.Omega.{arith}
+use Prim.Native.Nat.{_+_, _-_, _≤_}
+use Rattle.text.proofs.WriteLaws.{wrote-then}
+use Rattle.text.proofs.NameLaws.{length-lowered}
+use Rattle.layoutform.specs.Form.{entryLine}
+use Rattle.layoutform.specs.Rewrite.{entryNamed}
+use Rattle.text.proofs.WriteLaws.{wrote-is}
+use Rattle.layoutform.proofs.PrintLaws.{entry-bytes, coordinate-end}
+use borrow.Author.Needs.{needs}
+use Rattle.layoutform.proofs.print.put_entry.Statement.{statement}
+use Rattle.layoutform.proofs.print.put_entry.Tie as tie
+
+-- a name has at most 16 bytes
+far : (c : tie.After-put-lowered) → c .put-lowered .result ≤ c .before .before .before .before .before .args .at + 16
+far c = omega (arith, c .put-lowered .ensures .next, length-lowered (c .before .before .before .before .before .args .w .now), c .before .before .before .before .before .pre)
+
+put-coordinate-requires : tie.Need-put-coordinate-requires
+put-coordinate-requires c κs = omega (arith, far (c .before .before .before), c .before .before .before .before .before .before .before .before .pre)
+
+put-coordinate-requires-2 : tie.Need-put-coordinate-requires-2
+put-coordinate-requires-2 c κs = omega (arith, coordinate-end _ (c .before .before .before .put-coordinate .ensures), far (c .before .before .before .before .before .before .before), c .before .before .before .before .before .before .before .before .before .before .before .before .pre)
+
+put-coordinate-requires-3 : tie.Need-put-coordinate-requires-3
+put-coordinate-requires-3 c κs = omega (arith, coordinate-end _ (c .before .before .before .put-coordinate2 .ensures), coordinate-end _ (c .before .before .before .before .before .before .before .put-coordinate .ensures), far (c .before .before .before .before .before .before .before .before .before .before .before), c .before .before .before .before .before .before .before .before .before .before .before .before .before .before .before .before .pre)
+
+put-byte-requires : tie.Need-put-byte-requires
+put-byte-requires c κs = omega (arith, coordinate-end _ (c .before .before .before .put-coordinate3 .ensures), coordinate-end _ (c .before .before .before .before .before .before .before .put-coordinate2 .ensures), coordinate-end _ (c .before .before .before .before .before .before .before .before .before .before .before .put-coordinate .ensures), far (c .before .before .before .before .before .before .before .before .before .before .before .before .before .before .before), c .before .before .before .before .before .before .before .before .before .before .before .before .before .before .before .before .before .before .before .before .pre)
+
+returns : tie.Need-returns
+unfolding entryLine entryNamed
+returns c = wrote-is _ (wrote-then (c .before .before .before .before .before .before .before .before .before .before .before .before .before .before .before .before .before .before .put-lowered .ensures) (wrote-then (c .before .before .before .before .before .before .before .before .before .before .before .before .before .before .put-coordinate .ensures) (wrote-then (c .before .before .before .before .before .before .before .before .before .before .put-coordinate2 .ensures) (wrote-then (c .before .before .before .before .before .before .put-coordinate3 .ensures) (c .before .before .put-byte .ensures))))) (entry-bytes _ _ _ _)
+
+pub put-entry-spec : {M : Type 1} → statement M
+put-entry-spec =
+    tie.close
+    (tie.spec (search needs) put-coordinate-requires put-coordinate-requires-2 put-coordinate-requires-3 put-byte-requires (search needs) returns)

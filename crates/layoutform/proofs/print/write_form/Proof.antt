@@ -1,0 +1,60 @@
+-- `layoutform::print::write_form` meets its contract. Assumes nothing.
+use mathlib.Core.List.{_++_}
+use native.Mathlib.Omega.{arith}
+use denote.Ref.{now}
+use Rattle.text.specs.Write.{Wrote}
+use Rattle.layoutform.specs.Rewrite.{renamedForm}
+use Rattle.text.proofs.FitLaws.{too-short, long-enough}
+use borrow.Author.Needs.{needs}
+use Rattle.layoutform.proofs.print.write_form.Statement.{statement}
+use Rattle.layoutform.proofs.print.write_form.Tie as tie
+
+slice-relend-prefix-put-form : tie.Need-slice-relend-prefix-put-form
+slice-relend-prefix-put-form c = search needs
+
+slice-aggregate-put-form : tie.Need-slice-aggregate-put-form
+slice-aggregate-put-form c = search needs
+
+put-form-requires : tie.Need-put-form-requires
+put-form-requires c κs = search needs
+
+same-length : tie.Need-same-length
+same-length c = search needs
+
+returns : tie.Need-returns
+returns c =
+    let g = c .before .before .before .before .before .before .before .before in
+    too-short _ (g .args .out .now) _ _ (c .before .before .before .put-form .ensures) (c .if1 .taken)
+
+put-form-requires-2 : tie.Need-put-form-requires-2
+put-form-requires-2 c κs = search needs
+
+cast-t14 : tie.Need-cast-t14
+cast-t14 c = search needs
+
+same-length-2 : tie.Need-same-length-2
+same-length-2 c = search needs
+
+-- the form goes to the whole output, behind what the dry run left of its empty start
+written : (c : tie.After-put-form2) → let a = c .before .before .before .before .before .before .before .before .before .before .args in
+    Wrote (c .before .before .before .before .before .put-form .last .0 ++ now (a .out)) (c .put-form2 .last .0) 0 (c .put-form2 .result) (renamedForm (now (a .s)) (a .i) (now (a .name)))
+written c = c .put-form2 .ensures
+
+returns-2 : tie.Need-returns-2
+returns-2 c =
+    let g = c .before .before .before .before .before .before .before .before .before .before .before .before in
+    long-enough _ (g .args .out .now) _ _ (c .before .before .before .before .before .before .before .put-form .ensures) _ _ (omega (arith, g .pre .1)) (c .before .before .before .before .if1 .left) (written (c .before .before))
+
+pub write-form-spec : {M : Type 1} → statement M
+write-form-spec =
+    tie.close
+    (tie.spec
+    slice-relend-prefix-put-form
+    slice-aggregate-put-form
+    put-form-requires
+    same-length
+    returns
+    put-form-requires-2
+    cast-t14
+    same-length-2
+    returns-2)

@@ -1,0 +1,77 @@
+-- What the calls answer, case by case. Assumes nothing.
+use mathlib.Core.Path.{_≡_, sym, ap, _∙_}
+use mathlib.Core.Bool.{Bool, true, false}
+use mathlib.Core.List.{List, []}
+use Prim.Native.Nat.{ℕ, _≤_, _<_}
+use native.Mathlib.Omega.{arith}
+use lib.Dec.{ltb}
+use lib.ListN.{length, getD}
+use borrow.Author.Tests.{lt-ltb, le-ltb}
+use Rattle.verdict.specs.declared.Answer.{Answer}
+use Rattle.verdict.specs.Verdict.{accepted, refused, rule, _then_}
+use Rattle.text.specs.Scan.{words, lineAt}
+use Rattle.text.specs.Name.{isName}
+use Rattle.layout.specs.declared.Layout.{Layout}
+use Rattle.rooms.specs.declared.Rooms.{Rooms}
+use Rattle.text.specs.Reading.{Word, nth}
+use Rattle.layout.specs.Grammar.{namesOf}
+use Rattle.layout.specs.Layout.{layoutVerdict, layoutOf}
+use Rattle.layout.specs.Grammar.{knownBut}
+use Rattle.rooms.specs.Rooms.{roomNames, roomsOf, nameVerdict}
+use Rattle.layout.specs.Starts.{held, Named, keptName, Answered}
+use Rattle.layout.proofs.EachLaws.{length-names}
+use Rattle.layout.proofs.ReadLaws.{layout-good, verdict-proper}
+use Rattle.layout.proofs.HeldLaws.{held-long, rooms-named}
+
+-- ---- the rooms of a layout, by what the reader answered
+
+module _ (s : List ℕ) (r : Layout) (sized : length (r .starts) ≡ 192) (a : Answered s r) where
+  pub rooms-are : r .rooms ≡ length (roomNames s)
+  unfolding roomNames
+  rooms-are = omega (arith, length-names (layoutOf s .rooms), ap length (a .held .rooms), held-long s (r .starts) 0 (r .rooms) (omega (arith, a .held .few-rooms)))
+
+  pub names-are : namesOf (held s (r .starts) 0 (r .rooms)) ≡ roomNames s
+  unfolding roomNames
+  names-are = ap namesOf (a .held .rooms)
+
+  pub rooms-have-names : Named s (r .starts) (r .rooms)
+  rooms-have-names = rooms-named s (r .starts) (r .rooms) (omega (arith, a .held .few-rooms)) (rw (a .held .rooms) (layout-good s .rooms))
+
+  pub verdict-is : layoutVerdict s ≡ refused (r .number) (r .place)
+  verdict-is = sym (a .verdict)
+
+  pub verdict-accepts : r .number ≡ 0 → layoutVerdict s ≡ accepted
+  verdict-accepts z = verdict-proper s .at-0 (ap (λ (v : Answer). v .number) verdict-is ∙ z)
+
+  pub rooms-told : _≡_ {A = Rooms} (record { number = r .number; place = r .place; rooms = r .rooms }) (roomsOf s)
+  unfolding roomsOf
+  rooms-told = rw (verdict-is, ← rooms-are)
+
+  -- ---- a typed name for a room
+
+  module _ (i : ℕ) (w : Word) where
+    pub name-21 : r .rooms ≤ i → refused 21 i ≡ nameVerdict s i w
+    unfolding nameVerdict rule _then_
+    name-21 h = rw (le-ltb i (length (roomNames s)) (omega (arith, rooms-are)))
+
+    module _ (h : i < r .rooms) where
+      inside : ltb i (length (roomNames s)) ≡ true
+      inside = lt-ltb i (length (roomNames s)) (omega (arith, rooms-are))
+
+      pub name-34 : isName w ≡ false → refused 34 0 ≡ nameVerdict s i w
+      unfolding nameVerdict rule _then_
+      name-34 e = rw (inside, e)
+
+      pub name-37 : (k : Bool) → isName w ≡ true → k ≡ knownBut i w (namesOf (held s (r .starts) 0 (r .rooms))) → rule 37 k 0 ≡ nameVerdict s i w
+      unfolding nameVerdict rule _then_
+      name-37 k e ek = rw (inside, e, ek, names-are)
+
+-- ---- the name at a kept start
+
+pub kept-some-name : (s starts : List ℕ) (k : ℕ) (l u : List ℕ) → k < length starts → l ≡ lineAt s (getD starts k 0) → u ≡ nth (words l) 0 → u ≡ keptName s starts k
+unfolding keptName
+kept-some-name s starts k l u h el eu = eu ∙ rw (lt-ltb k (length starts) h, el)
+
+pub kept-no-name : (s starts : List ℕ) (k : ℕ) → length starts ≤ k → [] ≡ keptName s starts k
+unfolding keptName
+kept-no-name s starts k h = rw (le-ltb k (length starts) h)

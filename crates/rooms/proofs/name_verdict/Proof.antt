@@ -1,0 +1,49 @@
+-- `rooms::name_verdict` meets its contract. Assumes nothing.
+use mathlib.Core.Path.{_≡_, sym, _∙_}
+use native.Mathlib.Omega.{arith}
+use lib.ListN.{length}
+use borrow.Author.Needs.{needs}
+use Rattle.rooms.proofs.RoomLaws.{rooms-have-names, name-21, name-34, name-37}
+use Rattle.rooms.proofs.name_verdict.Statement.{statement}
+use Rattle.rooms.proofs.name_verdict.Tie as tie
+
+-- the array has its places
+sized : (g : tie.Start) → length (g .args .r .starts) ≡ 192
+sized g = search needs
+
+returns : tie.Need-returns
+returns c = let g = c .before .before .before in name-21 _ _ (sized g) (g .pre) _ _ (c .if1 .taken)
+
+is-name-requires : tie.Need-is-name-requires
+is-name-requires c κs = search needs
+
+slice-aggregate-is-known : tie.Need-slice-aggregate-is-known
+slice-aggregate-is-known c = search needs
+
+is-known-requires : tie.Need-is-known-requires
+is-known-requires c κs =
+    let g = c .before .before .before .before .before .before .before in
+    (omega (arith, sized g, g .pre .held .few-rooms), (sym (c .before .before .before .is-name .ensures) ∙ c .before .before .if2 .taken, rooms-have-names _ _ (sized g) (g .pre)))
+
+first-rule-requires : tie.Need-first-rule-requires
+first-rule-requires c κs = search needs
+
+returns-2 : tie.Need-returns-2
+returns-2 c =
+    let g = c .before .before .before .before .before .before .before .before .before in
+    c .first-rule .ensures ∙ name-37 _ _ (sized g) (g .pre) _ _ (c .before .before .before .before .before .before .if1 .left) _ (sym (c .before .before .before .before .before .is-name .ensures) ∙ c .before .before .before .before .if2 .taken) (c .before .is-known .ensures)
+
+returns-3 : tie.Need-returns-3
+returns-3 c = let g = c .before .before .before .before .before in name-34 _ _ (sized g) (g .pre) _ _ (c .before .before .if1 .left) (sym (c .before .is-name .ensures) ∙ c .if2 .left)
+
+pub name-verdict-spec : {M : Type 1} → statement M
+name-verdict-spec =
+    tie.close
+    (tie.spec
+    returns
+    is-name-requires
+    slice-aggregate-is-known
+    is-known-requires
+    first-rule-requires
+    returns-2
+    returns-3)

@@ -1,0 +1,37 @@
+-- `sightform::print::put_line` meets its contract. Assumes nothing.
+use native.Mathlib.Omega.{arith}
+use Rattle.text.proofs.WriteLaws.{wrote-then}
+use Rattle.text.proofs.WriteLaws.{wrote-is}
+use Rattle.sightform.proofs.PrintLaws.{line-bytes, shown-short}
+use borrow.Author.Needs.{needs}
+use Rattle.sightform.proofs.print.put_line.Statement.{statement}
+use Rattle.sightform.proofs.print.put_line.Tie as tie
+
+put-byte-requires : tie.Need-put-byte-requires
+put-byte-requires c κs = search needs
+
+put-byte-requires-2 : tie.Need-put-byte-requires-2
+put-byte-requires-2 c κs = search needs
+
+put-name-requires : tie.Need-put-name-requires
+put-name-requires c κs = search needs
+
+put-byte-requires-3 : tie.Need-put-byte-requires-3
+put-byte-requires-3 c κs = let g = c .before .before .before .before .before .before .before .before .before .before .before .before .before .before .before .before .before in omega (arith, c .before .before .before .put-name .ensures .next, shown-short (g .args .layout .now) (g .args .starts .now) (g .args .i) (g .args .name .now) (g .args .j) (g .pre .1 .0) (g .pre .1 .1), c .before .before .before .before .before .before .before .put-byte2 .ensures .next, c .before .before .before .before .before .before .before .before .before .before .before .put-byte .ensures .next, g .pre .0)
+
+same-length : tie.Need-same-length
+same-length c = search needs
+
+returns : tie.Need-returns
+returns c = wrote-is _ (wrote-then (c .before .before .before .before .before .before .before .before .before .before .before .before .before .before .put-byte .ensures) (wrote-then (c .before .before .before .before .before .before .before .before .before .before .put-byte2 .ensures) (wrote-then (c .before .before .before .before .before .before .put-name .ensures) (c .before .before .put-byte3 .ensures)))) (line-bytes _)
+
+pub put-line-spec : {M : Type 1} → statement M
+put-line-spec =
+    tie.close
+    (tie.spec
+    put-byte-requires
+    put-byte-requires-2
+    put-name-requires
+    put-byte-requires-3
+    same-length
+    returns)

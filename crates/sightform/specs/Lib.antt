@@ -1,0 +1,3 @@
+pub mod Form
+pub mod Rewrite
+pub mod Code

@@ -1,0 +1,4 @@
+pub mod Triangle
+pub mod Crosses
+pub mod Weights
+pub mod Corners
