@@ -1,3 +1,4 @@
+-- An entry lies where the table's offset and its number say, inside the file. Assumes nothing.
 use mathlib.Core.Path.{_≡_}
 use Prim.Native.Nat.{_+_, _*_, _≤_}
 use native.Mathlib.Omega.{arith}

@@ -1,3 +1,4 @@
+-- The start, then the end. Assumes nothing.
 use borrow.Author.Tests.{le-ltb, lt-ltb}
 use Rattle.tables.specs.Tables.{outside}
 use Rattle.tables.proofs.is_outside.Statement.{statement}

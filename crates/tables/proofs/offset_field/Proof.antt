@@ -1,3 +1,4 @@
+-- Behind the ninth table no offset. Assumes nothing.
 use lib.ListN.{List·getD-eq-default}
 use mathlib.Core.Path.{ap, sym}
 use Rattle.tables.specs.Header.{floorTables}

@@ -1,3 +1,4 @@
+-- A table's span, asked. Assumes nothing.
 use Rattle.tables.specs.Tables.{outsideAt}
 use borrow.Author.Needs.{needs}
 use Rattle.tables.proofs.outside_at.Statement.{statement}

@@ -1,3 +1,4 @@
+-- Two spans share a byte if the larger start lies before the smaller end. Assumes nothing.
 use Rattle.tables.specs.Tables.{shares}
 use borrow.Author.Needs.{needs}
 use Rattle.tables.proofs.share.Statement.{statement}

@@ -1,3 +1,4 @@
+-- The tables before it, up to the first that shares a byte. Assumes nothing.
 use borrow.Author.Needs.{needs}
 use Prim.Native.Nat.{_-_}
 use mathlib.Core.Path.{_≡_}

@@ -1,3 +1,4 @@
+-- Offset, and offset with count times size. Assumes nothing.
 use native.Mathlib.Omega.{arith}
 use Rattle.tables.specs.Tables.{spanOf}
 use Rattle.tables.proofs.Floor.{product-fits}

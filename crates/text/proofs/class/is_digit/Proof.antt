@@ -1,3 +1,4 @@
+-- Class 2. Assumes nothing.
 use mathlib.Core.Path.{ap}
 use Prim.Native.Nat.{ℕ}
 use lib.Dec.{eqb}
@@ -6,8 +7,6 @@ use borrow.Author.Needs.{needs}
 use Rattle.text.proofs.class.is_digit.Statement.{statement}
 use Rattle.text.proofs.class.is_digit.Tie as tie
 
--- src/lib.rt:38:5
--- src/lib.rt:35:1
 returns : tie.Need-returns
 unfolding isDigit
 returns c = ap (λ (k : ℕ). eqb k 2) (c .class-of .ensures)
