@@ -14,7 +14,7 @@ use lib.Seq.{length-take-le, take-append-le, drop-append-le, drop-drop, drop-con
 use borrow.Author.Tests.{eqb-true, eqb-false, ltb-true}
 use Rattle.verdict.proofs.Bools.{test, decided}
 use Rattle.verdict.proofs.Verdict.{passed}
-use Rattle.text.specs.Class.{isGap, isEnd}
+use Rattle.letters.specs.Class.{isGap, isEnd}
 use Rattle.text.specs.Scan.{run, apart, words, lines, lineAt}
 use Rattle.text.specs.Sound.{rules31to32}
 use Rattle.text.specs.Reading.{Line, nth}

@@ -10,9 +10,9 @@ use lib.Seq.{length-take-le}
 use borrow.Author.Tests.{eq-eqb, ne-eqb, eqb-true, eqb-false, ltb-true}
 use Rattle.verdict.proofs.Bools.{test}
 use Rattle.verdict.proofs.Verdict.{passed}
-use Rattle.text.specs.Class.{isGap, isEnd}
+use Rattle.letters.specs.Class.{isGap, isEnd}
 use Rattle.text.specs.Scan.{run, apart, words, lines, lineAt}
-use Rattle.text.specs.Name.{same}
+use Rattle.names.specs.Name.{same}
 use Rattle.text.specs.Sound.{rules31to32}
 use Rattle.text.specs.Reading.{Word, nth}
 use Rattle.text.proofs.RunLaws.{run-le}

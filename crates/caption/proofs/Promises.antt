@@ -10,10 +10,10 @@ use lib.Dec.{eqb}
 use lib.ListN.{length, getD, take, drop}
 use borrow.Author.Tests.{ltb-true}
 use Rattle.verdict.proofs.Bools.{clash, test}
-use Rattle.text.specs.Class.{nameByte, isGap}
+use Rattle.letters.specs.Class.{nameByte, isGap}
 use Rattle.text.specs.Scan.{run, lineAt}
-use Rattle.text.specs.Name.{isName}
-use Rattle.text.proofs.NameLaws.{name-clean}
+use Rattle.names.specs.Name.{isName}
+use Rattle.names.proofs.NameLaws.{name-clean}
 use Rattle.layout.specs.Grammar.{namesOf}
 use Rattle.layout.specs.Layout.{layoutOf}
 use Rattle.rooms.specs.Rooms.{roomNames}

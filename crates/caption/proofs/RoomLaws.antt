@@ -12,12 +12,12 @@ use lib.ListN.{length, getD, length-append}
 use lib.Seq.{getD-append-seam, getD-append-add}
 use borrow.Author.Tests.{eqb-true, eqb-false, ltb-true}
 use Rattle.verdict.proofs.Bools.{clash, test, decided}
-use Rattle.text.specs.Class.{within}
+use Rattle.letters.specs.Class.{within}
 use Rattle.text.specs.Scan.{words}
-use Rattle.text.specs.Name.{same}
+use Rattle.names.specs.Name.{same}
 use Rattle.text.specs.Reading.{Word, Line, nth}
 use Rattle.text.proofs.SplitLaws.{words-nil}
-use Rattle.text.proofs.NameLaws.{same-refl, same-true, same-name-refl}
+use Rattle.names.proofs.NameLaws.{same-refl, same-true, same-name-refl}
 use Rattle.text.proofs.ReadingLaws.{read-next, read-stop, read-end}
 use Rattle.layout.specs.Grammar.{Typed, State, namesOf, withEntry, opens, wordsOf, openFault, fault, next, finish, layoutGrammar, readFrom}
 use Rattle.caption.specs.Caption.{entersAs}

@@ -4,9 +4,9 @@ use mathlib.Core.Bool.{Bool, cond, _&&_, _||_}
 use mathlib.Core.List.{List, [], _∷_}
 use lib.ListN.{length, getD}
 use lib.Dec.{ltb, eqb}
-use Rattle.text.specs.Class.{isGap}
+use Rattle.letters.specs.Class.{isGap}
 use Rattle.text.specs.Scan.{run, words, lines}
-use Rattle.text.specs.Name.{same}
+use Rattle.names.specs.Name.{same}
 use Rattle.text.specs.Reading.{Word, nth}
 use Rattle.caption.specs.declared.CaptionAt.{CaptionAt}
 use Rattle.rooms.specs.Rooms.{roomNames}

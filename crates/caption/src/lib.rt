@@ -47,7 +47,7 @@ fn enters_as(l: &[u8], w: &[u8]) -> bool
     ensures { λ r. ⌜ r ≡ entersAs (now (w .entry)) (now (l .entry)) ⌝ }
 {
     if word_count(l) == 4 {
-        return text::same_word(word(l, 0), w);
+        return names::same_word(word(l, 0), w);
     }
     false
 }

@@ -13,7 +13,7 @@ ghost use Rattle.verdict.specs.Output.{formAnswer, formMemory};
 ghost use Rattle.floor.specs.Reader.{readerAnswer, readerMemory};
 ghost use Rattle.floor.specs.Rewrite.{rewriteAnswer, rewriteMemory};
 ghost use Rattle.query.specs.Points.{pointAnswer};
-ghost use Rattle.record.specs.Area.{areaFloor};
+ghost use Rattle.laying.specs.Area.{areaFloor};
 ghost use Rattle.journal.specs.Wish.{paintWish, linkWish, nudgeWish};
 ghost use Rattle.journal.specs.Step.{lent, left, editStep, undoStep, redoStep, putBackStep};
 ghost use Rattle.layoutform.specs.Form.{partsOf, formText};

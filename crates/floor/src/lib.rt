@@ -67,7 +67,7 @@ fn floor_verdict(bytes: &[u8], work: &mut [u8]) -> Answer
     ensures answer { λ r. ⌜ r ≡ rules1to19 (now (bytes .entry)) ⌝ }
     ensures memory { λ _. ⌜ clearedTo workSize (now (work .exit)) ≡ clearedTo workSize (now (work .entry)) ⌝ }
 {
-    let header = tables::header_verdict(bytes);
+    let header = header::header_verdict(bytes);
     if header.number != 0 {
         return header;
     }

@@ -5,4 +5,3 @@ pub mod Patterns
 pub mod Finite
 pub mod Nudges
 pub mod Answers
-pub mod Boxes

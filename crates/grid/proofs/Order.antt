@@ -2,7 +2,7 @@
 -- floats, infinities and NaN included. Assumes nothing.
 use mathlib.Core.Path.{_≡_, refl, sym, ap, _∙_, subst}
 use mathlib.Core.Logic.{_⊎_, inl, inr}
-use Prim.Native.Nat.{ℕ, zero, suc, _+_, _-_, _*_, _≤_, _<_, zero-le}
+use Prim.Native.Nat.{ℕ, zero, suc, _+_, _*_, _≤_, _<_, zero-le}
 use native.Mathlib.Nat.{le-refl, zero-lt-suc, mul-one, mul-comm, mul-right-comm, mul-mul-mul-comm, mul-pos, zero-mul, le-of-lt, le-of-eq, le-antisymm, lt-irrefl}
 use native.Mathlib.Nat as N
 use native.Mathlib.Omega.{arith}

@@ -1,4 +1,3 @@
 pub mod Grid
-pub mod Box
 pub mod Answers
 pub mod Plain

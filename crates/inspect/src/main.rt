@@ -8,7 +8,7 @@ ghost use mathlib.Core.List.{_++_};
 ghost use Prim.Native.Nat.{_+_, _<_, _≤_};
 ghost use lib.ListN.{length};
 ghost use Rattle.verdict.specs.Lowest.{lowest};
-ghost use Rattle.text.specs.Write.{Wrote};
+ghost use Rattle.printer.specs.Write.{Wrote};
 ghost use Rattle.inspect.specs.Line.{hasUpTo, decimal, named, lineFeed, tooLong, acceptedLine, refusedLine, lineOf, fileLine, fileMemory};
 
 // 10, 100, .., 10 to the ninth.
@@ -51,7 +51,7 @@ fn put_decimal(out: &mut [u8], at: usize, n: u32) -> usize
     ensures { λ r. ⌜ Wrote (now (out .entry)) (now (out .exit)) at r (decimal n) × (r ≤ at + 10) ⌝ }
 {
     let k = first_under(n) + 1;
-    number::put_fixed(out, at, k, n as u64)
+    printer::put_fixed(out, at, k, n as u64)
 }
 
 // A word and then a number.
@@ -59,7 +59,7 @@ fn put_named(out: &mut [u8], at: usize, word: &[u8], n: u32) -> usize
     requires { ⌜ (at < 512) × (length (now word) ≤ 32) ⌝ }
     ensures { λ r. ⌜ Wrote (now (out .entry)) (now (out .exit)) at r (named (now (word .entry)) n) × (r ≤ at + 42) ⌝ }
 {
-    let next = text::put_word(out, at, word);
+    let next = printer::put_word(out, at, word);
     put_decimal(out, next, n)
 }
 
@@ -70,7 +70,7 @@ fn put_accepted(out: &mut [u8], r: Floor) -> usize
     let b = put_named(out, a, b" walkable ", r.walkable);
     let c = put_named(out, b, b" edges ", r.edges);
     let d = put_named(out, c, b" perimeters ", r.perimeters);
-    text::put_byte(out, d, 10)
+    printer::put_byte(out, d, 10)
 }
 
 fn put_refused(out: &mut [u8], r: Floor) -> usize
@@ -78,7 +78,7 @@ fn put_refused(out: &mut [u8], r: Floor) -> usize
 {
     let a = put_named(out, 0, b"refused ", r.number);
     let b = put_named(out, a, b" at ", r.place);
-    text::put_byte(out, b, 10)
+    printer::put_byte(out, b, 10)
 }
 
 // The line of an answer.
@@ -94,8 +94,8 @@ fn line_of(out: &mut [u8], r: Floor) -> usize
 fn put_too_long(out: &mut [u8]) -> usize
     ensures { λ e. ⌜ Wrote (now (out .entry)) (now (out .exit)) 0 e (tooLong ++ lineFeed) × (e ≤ 256) ⌝ }
 {
-    let a = text::put_word(out, 0, b"too long");
-    text::put_byte(out, a, 10)
+    let a = printer::put_word(out, 0, b"too long");
+    printer::put_byte(out, a, 10)
 }
 
 // The line of a file.

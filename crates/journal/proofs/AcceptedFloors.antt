@@ -26,11 +26,11 @@ use Rattle.floor.specs.Sound.{Sound}
 use Rattle.floor.proofs.Meaning.{accepted-sound, sound-accepted}
 use Rattle.floor.proofs.Edits.{paint-kept, link-kept, nudge-kept}
 use Rattle.record.specs.declared.Rec.{Rec}
-use Rattle.record.specs.Allowed.{linkable}
-use Rattle.record.specs.Kind.{lay}
-use Rattle.record.specs.Area.{areaFloor}
-use Rattle.record.proofs.Allowed.{permitted-small, permitted-same}
-use Rattle.record.proofs.Area.{lay-right}
+use Rattle.laying.specs.Allowed.{linkable}
+use Rattle.laying.specs.Kind.{lay}
+use Rattle.laying.specs.Area.{areaFloor}
+use Rattle.laying.proofs.Allowed.{permitted-small, permitted-same}
+use Rattle.laying.proofs.Area.{lay-right}
 use Rattle.journal.specs.Lawful.{Fits, Lawful}
 use Rattle.journal.specs.Step.{lent}
 use Rattle.journal.specs.Calls.{Call, run}

@@ -4,7 +4,7 @@ use Prim.Native.Nat.{ℕ}
 use mathlib.Core.List.{List, []}
 use native.Mathlib.Omega.{arith}
 use lib.ListN.{length}
-use Rattle.record.specs.Kind.{Kind, lay}
+use Rattle.laying.specs.Kind.{Kind, lay}
 use Rattle.journal.specs.Lawful.{Lawful, Fits}
 use Rattle.journal.specs.Step.{State, lent}
 use Rattle.journal.specs.Calls.{Call, putBack, step, run}

@@ -14,10 +14,10 @@ use Rattle.tables.specs.Fixed.{Sized}
 use Rattle.tables.proofs.Reading.{sized-of}
 use Rattle.tables.proofs.Writing.{set-here, set-elsewhere, set-other-table}
 use Rattle.record.specs.declared.Rec.{Rec}
-use Rattle.record.specs.Allowed.{linkable}
-use Rattle.record.specs.Kind.{lay}
-use Rattle.record.specs.Area.{areaFloor}
-use Rattle.record.proofs.Area.{lay-right}
+use Rattle.laying.specs.Allowed.{linkable}
+use Rattle.laying.specs.Kind.{lay}
+use Rattle.laying.specs.Area.{areaFloor}
+use Rattle.laying.proofs.Area.{lay-right}
 use Rattle.journal.specs.Lawful.{Fits, Lawful}
 use Rattle.journal.specs.Step.{lent}
 use Rattle.journal.specs.Calls.{Call, run}

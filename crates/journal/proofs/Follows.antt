@@ -19,7 +19,7 @@ use Rattle.wire.specs.Bytes.{put}
 use Rattle.wire.proofs.Put.{length-put}
 use Rattle.record.specs.declared.Rec.{Rec}
 use Rattle.record.specs.Record.{size, flip, nothing, recordBytes, recordAt}
-use Rattle.record.specs.Kind.{Kind, lay}
+use Rattle.laying.specs.Kind.{Kind, lay}
 use Rattle.record.proofs.Records.{recordAt-put, recordAt-below}
 use Rattle.journal.specs.Wish.{Wish, paintWish, linkWish, nudgeWish}
 use Rattle.journal.specs.Lawful.{Lawful, Granted, Fits}

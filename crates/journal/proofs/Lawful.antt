@@ -16,11 +16,11 @@ use Rattle.grid.specs.Grid.{onGrid, mayNudge, nudgeBits}
 use Rattle.grid.proofs.Grid.{grid-on}
 use Rattle.grid.proofs.Nudges.{may, nudge-on, nudge-lt}
 use Rattle.record.specs.declared.Rec.{Rec}
-use Rattle.record.specs.Allowed.{permitted, linkable}
-use Rattle.record.specs.Kind.{lay}
-use Rattle.record.specs.Area.{areaCount, areaField, areaAllowed, areaFloor}
-use Rattle.record.proofs.Allowed.{permitted-small, permitted-sym, link-word, linkable-small}
-use Rattle.record.proofs.Area.{by-tag, paint-place, link-place, nudge-place, paint-in, link-in, field-inside, tag-small, place-small, lay-counts, lay-places}
+use Rattle.laying.specs.Allowed.{permitted, linkable}
+use Rattle.laying.specs.Kind.{lay}
+use Rattle.laying.specs.Area.{areaCount, areaField, areaAllowed, areaFloor}
+use Rattle.laying.proofs.Allowed.{permitted-small, permitted-sym, link-word, linkable-small}
+use Rattle.laying.proofs.Area.{by-tag, paint-place, link-place, nudge-place, paint-in, link-in, field-inside, tag-small, place-small, lay-counts, lay-places}
 use Rattle.journal.specs.Wish.{paintWish, linkWish, nudgeWish}
 use Rattle.journal.specs.Lawful.{Fits, Granted, Lawful}
 

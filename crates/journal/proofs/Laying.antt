@@ -11,7 +11,7 @@ use Rattle.wire.proofs.Put.{put-put}
 use Rattle.wire.proofs.Numbers.{length-u32, u32-small, u32-here, put-back}
 use Rattle.record.specs.declared.Rec.{Rec}
 use Rattle.record.specs.Record.{Sized, body, flip}
-use Rattle.record.specs.Kind.{Kind, lay, fits}
+use Rattle.laying.specs.Kind.{Kind, lay, fits}
 use Rattle.journal.specs.Lawful.{Lawful, Fits}
 
 pub fits-is : (K : Kind) (fl : List ℕ) (r : Rec) → Fits K fl r → fits K fl r ≡ true

@@ -9,7 +9,7 @@ use lib.Seq.{getD-drop, take-all}
 use Rattle.verdict.proofs.Bools.{test}
 use Rattle.wire.specs.Bytes.{u32At}
 use Rattle.record.specs.Record.{flip, recordAt}
-use Rattle.record.specs.Kind.{Kind, lay, fits}
+use Rattle.laying.specs.Kind.{Kind, lay, fits}
 use Rattle.journal.specs.Step.{unwindsTo, unwind}
 use Rattle.journal.proofs.Refused.{unwind-more, unwind-stop, unwind-end}
 

@@ -10,7 +10,7 @@ use borrow.Author.Tests.{eq-eqb, ne-eqb}
 use Rattle.verdict.specs.declared.Answer.{Answer}
 use Rattle.verdict.proofs.Bools.{decided, test}
 use Rattle.record.specs.Record.{size, flip, recordAt}
-use Rattle.record.specs.Kind.{Kind, lay, fits}
+use Rattle.laying.specs.Kind.{Kind, lay, fits}
 use Rattle.journal.specs.declared.Session.{Session}
 use Rattle.journal.specs.Step.{State, Outcome, left, next, unless, unwind, unwound, commonVerdict, editStep, undoStep, redoStep, putBackStep}
 use Rattle.journal.specs.Calls.{Call, paint, link, nudge, undo, redo, putBack, step}

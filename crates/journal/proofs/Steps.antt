@@ -14,7 +14,7 @@ use Rattle.verdict.proofs.Bools.{or-false, decided}
 use Rattle.verdict.proofs.Verdict.{then-next, then-stop, then-assoc, passed, unbroken, met}
 use Rattle.record.specs.declared.Rec.{Rec}
 use Rattle.record.specs.Record.{size}
-use Rattle.record.specs.Kind.{Kind, lay, fits}
+use Rattle.laying.specs.Kind.{Kind, lay, fits}
 use Rattle.journal.specs.declared.Session.{Session}
 use Rattle.journal.specs.Wish.{Wish, asked}
 use Rattle.journal.specs.Lawful.{oldWord}

@@ -2,7 +2,7 @@
 use Prim.Native.Nat.{ℕ}
 use mathlib.Core.List.{List, [], _∷_}
 use lib.IntN.{ℤ}
-use Rattle.record.specs.Kind.{Kind}
+use Rattle.laying.specs.Kind.{Kind}
 use Rattle.journal.specs.Wish.{paintWish, linkWish, nudgeWish}
 use Rattle.journal.specs.Step.{State, Outcome, next, editStep, undoStep, redoStep, putBackStep}
 

@@ -6,7 +6,7 @@ use lib.ListN.{length, getD, take}
 use Rattle.verdict.specs.Verdict.{refused}
 use Rattle.verdict.specs.declared.Answer.{Answer}
 use Rattle.record.specs.Record.{size, nothing, recordAt}
-use Rattle.record.specs.Kind.{Kind, lay}
+use Rattle.laying.specs.Kind.{Kind, lay}
 use Rattle.journal.specs.declared.Session.{Session}
 use Rattle.journal.specs.Step.{State}
 use Rattle.journal.specs.Calls.{Call, putBack, step}

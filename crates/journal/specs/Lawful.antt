@@ -9,7 +9,7 @@ use lib.ListN.{length}
 use Rattle.wire.specs.Bytes.{u32At, Bytes}
 use Rattle.record.specs.declared.Rec.{Rec}
 use Rattle.record.specs.Record.{body}
-use Rattle.record.specs.Kind.{Kind, lay}
+use Rattle.laying.specs.Kind.{Kind, lay}
 use Rattle.journal.specs.Wish.{Wish, paintWish, linkWish, nudgeWish}
 
 -- a record that 27 lets through, and whose flip 27 will let through

@@ -7,7 +7,7 @@ use lib.Dec.{eqb}
 use Rattle.verdict.specs.Verdict.{accepted, rule}
 use Rattle.verdict.specs.declared.Answer.{Answer}
 use Rattle.record.specs.declared.Rec.{Rec}
-use Rattle.record.specs.Kind.{Kind, lay}
+use Rattle.laying.specs.Kind.{Kind, lay}
 use Rattle.journal.specs.Wish.{Wish, paintWish, linkWish, nudgeWish}
 use Rattle.journal.specs.Step.{recordOf, editRules}
 use Rattle.journal.specs.Calls.{Call, paint, link, nudge, undo, redo, putBack}

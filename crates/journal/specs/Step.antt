@@ -9,7 +9,7 @@ use Rattle.verdict.specs.declared.Answer.{Answer}
 use Rattle.wire.specs.Bytes.{put}
 use Rattle.record.specs.declared.Rec.{Rec}
 use Rattle.record.specs.Record.{size, made, flip, recordBytes, recordAt}
-use Rattle.record.specs.Kind.{Kind, lay, fits}
+use Rattle.laying.specs.Kind.{Kind, lay, fits}
 use Rattle.journal.specs.declared.Session.{Session}
 use Rattle.journal.specs.Wish.{Wish}
 use Rattle.journal.specs.Lawful.{oldWord}

@@ -4,7 +4,7 @@ use mathlib.Core.Path.{_≡_}
 use mathlib.Core.Bool.{true, false}
 use mathlib.Core.List.{List}
 use Rattle.record.specs.Record.{size, flip, recordAt}
-use Rattle.record.specs.Kind.{Kind, lay, fits}
+use Rattle.laying.specs.Kind.{Kind, lay, fits}
 use Rattle.journal.specs.Step.{State, Outcome}
 
 -- from a floor and k to a floor and k: records k - 1, k - 2, .. were taken back, each of which fitted when its turn came

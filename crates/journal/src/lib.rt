@@ -1,7 +1,7 @@
 // The journal: paint, link, nudge, undo, redo and put-back over a floor and a journal that the caller lends.
+use laying::rules;
+use laying::words;
 use record::SIZE;
-use record::rules;
-use record::words;
 use verdict::Answer;
 ghost use mathlib.Core.Path.{_≡_};
 ghost use mathlib.Core.Bool.{true};
@@ -11,8 +11,8 @@ ghost use Rattle.verdict.specs.Verdict.{_then_};
 ghost use Rattle.wire.specs.Bytes.{put};
 ghost use Rattle.tables.specs.Header.{headerVerdict, RightHeader};
 ghost use Rattle.record.specs.Record.{size, recordBytes};
-ghost use Rattle.record.specs.Kind.{lay};
-ghost use Rattle.record.specs.Area.{areaCount, areaFloor};
+ghost use Rattle.laying.specs.Kind.{lay};
+ghost use Rattle.laying.specs.Area.{areaCount, areaFloor};
 ghost use Rattle.journal.specs.Wish.{asked, paintWish, linkWish, nudgeWish};
 ghost use Rattle.journal.specs.Step.{lent, left, session, badSession, rule28, full, rule21, openVerdict, recordOf, editStep, undoStep, redoStep, unwindsTo, unwind, putBackStep};
 
@@ -52,7 +52,7 @@ fn is_full(room: usize, k: u32) -> bool
 fn common_verdict(floor: &[u8], room: usize, f: u32, k: u32, place: u32) -> Answer
     ensures { λ r. ⌜ r ≡ (headerVerdict (now (floor .entry)) then rule28 room f k place) ⌝ }
 {
-    let so = tables::header_verdict(floor);
+    let so = header::header_verdict(floor);
     verdict::then_rule(so, 28, is_bad(room, f, k), place)
 }
 
@@ -171,7 +171,7 @@ pub fn nudge(floor: &mut [u8], journal: &mut [u8], f: u32, k: u32, place: u32, s
     if so.number != 0 {
         return stop(so, f, k);
     }
-    let n = rules::widened(step);
+    let n = wire::widened(step);
     let moved = grid::nudge(words::word_at(floor, 3, place), n);
     let ok = moved.ok;
     let bits = moved.bits;

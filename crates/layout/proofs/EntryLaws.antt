@@ -9,9 +9,9 @@ use lib.Dec.{eqb, ltb}
 use lib.ListN.{length}
 use borrow.Author.Tests.{lt-ltb, le-leb, lt-leb, eq-eqb}
 use Rattle.verdict.proofs.Bools.{test}
-use Rattle.text.specs.Name.{same}
+use Rattle.names.specs.Name.{same}
 use Rattle.text.specs.Reading.{Word, Line, nth}
-use Rattle.text.proofs.NameLaws.{same-true}
+use Rattle.names.proofs.NameLaws.{same-true}
 use Rattle.number.specs.Count.{value}
 use Rattle.number.proofs.DecimalLaws.{decimal-ok}
 use Rattle.layout.specs.Grammar.{Typed, State, sectionOf, follows, opens, withEntry, namesOf, known, placed, entryFault, openFault, fault, next, beginlayout, roomcount, trackcount, obstaclecount, doorhookcount, donelayout}

@@ -3,10 +3,10 @@ use mathlib.Core.Path.{_≡_, refl}
 use mathlib.Core.List.{[], _∷_}
 use Rattle.verdict.specs.Lowest.{lowest, anyUnder}
 use Rattle.verdict.specs.Verdict.{refused, rule, ruleOfEach, _then_}
-use Rattle.text.specs.Class.{classOf, isDigit, isBlank, isReturn, isRefused, isGap, isEnd}
+use Rattle.letters.specs.Class.{classOf, isDigit, isBlank, isReturn, isRefused, isGap, isEnd}
 use Rattle.text.specs.Scan.{run, grow, split, keep, nonempty, words, lines}
 use Rattle.text.specs.Sound.{badAt, rule31, rule32, rules31to32}
-use Rattle.text.specs.Name.{same}
+use Rattle.names.specs.Name.{same}
 use Rattle.number.specs.Count.{value, isCount}
 use Rattle.text.specs.Written.{wordLines}
 use Rattle.text.specs.Reading.{readLines}

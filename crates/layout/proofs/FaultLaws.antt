@@ -8,7 +8,7 @@ use lib.Dec.{eqb}
 use lib.ListN.{length}
 use borrow.Author.Tests.{eq-eqb, ne-eqb, lt-ltb, le-ltb}
 use Rattle.text.specs.Scan.{words, lineAt}
-use Rattle.text.specs.Name.{isName}
+use Rattle.names.specs.Name.{isName}
 use Rattle.text.specs.Reading.{Word, Line, nth}
 use Rattle.layout.specs.Grammar.{State, opens, placed, openFault, entryFault, fault, namesOf, known}
 use Rattle.layout.specs.Grammar.{knownBut}

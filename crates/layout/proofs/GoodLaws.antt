@@ -10,8 +10,8 @@ use lib.Dec.{eqb, leb, ltb}
 use lib.ListN.{length, length-append}
 use borrow.Author.Tests.{eqb-true, eq-eqb, leb-true, ltb-true, not-false}
 use Rattle.verdict.proofs.Bools.{clash, test, decided, and-true, and-false, or-false}
-use Rattle.text.specs.Class.{within}
-use Rattle.text.specs.Name.{isName}
+use Rattle.letters.specs.Class.{within}
+use Rattle.names.specs.Name.{isName}
 use Rattle.number.specs.Count.{value, isCount}
 use Rattle.number.specs.Number.{numberOf}
 use Rattle.number.proofs.CountLaws.{count-within}

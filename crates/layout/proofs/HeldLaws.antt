@@ -12,7 +12,7 @@ use Rattle.verdict.specs.Lowest.{lowest}
 use Rattle.verdict.proofs.Lists.{map-at}
 use Rattle.verdict.proofs.Lowest.{any-hit, any-none, any-same}
 use Rattle.text.specs.Scan.{words, lineAt}
-use Rattle.text.specs.Name.{isName, sameName}
+use Rattle.names.specs.Name.{isName, sameName}
 use Rattle.layout.specs.declared.Progress.{Progress}
 use Rattle.text.specs.Reading.{Word, Line, nth}
 use Rattle.layout.specs.Grammar.{namesOf, known, opens}

@@ -8,8 +8,8 @@ use lib.ListN.{length}
 use borrow.Author.Tests.{eqb-true, eq-eqb, ne-eqb, le-leb, lt-leb}
 use Rattle.verdict.proofs.Bools.{same-test}
 use Rattle.number.specs.declared.Num.{Num}
-use Rattle.text.specs.Class.{within}
-use Rattle.text.specs.Name.{same}
+use Rattle.letters.specs.Class.{within}
+use Rattle.names.specs.Name.{same}
 use Rattle.number.specs.Count.{value, isCount}
 use Rattle.number.specs.Number.{numberOf}
 use Rattle.text.specs.Reading.{Word, Line, nth}

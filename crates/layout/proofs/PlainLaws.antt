@@ -11,7 +11,7 @@ use borrow.Author.Tests.{eqb-true, lt-leb}
 use Rattle.verdict.specs.declared.Answer.{Answer}
 use Rattle.verdict.specs.Verdict.{accepted}
 use Rattle.verdict.proofs.Bools.{clash, test, decided, and-true}
-use Rattle.text.specs.Name.{same, sameName}
+use Rattle.names.specs.Name.{same, sameName}
 use Rattle.text.specs.Sound.{rules31to32}
 use Rattle.text.specs.Written.{wordLines}
 use Rattle.text.specs.Reading.{Word, Line, nth, spoken}

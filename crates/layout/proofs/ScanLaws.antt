@@ -9,7 +9,7 @@ use borrow.Author.Tests.{eq-eqb, ne-eqb}
 use Rattle.verdict.specs.declared.Answer.{Answer}
 use Rattle.verdict.specs.Verdict.{accepted}
 use Rattle.verdict.proofs.Bools.{test}
-use Rattle.text.specs.Class.{isEnd}
+use Rattle.letters.specs.Class.{isEnd}
 use Rattle.text.specs.Scan.{run, apart, words, lineAt}
 use Rattle.text.specs.Sound.{rules31to32}
 use Rattle.text.specs.Written.{wordLines}

@@ -11,7 +11,7 @@ use lib.Dec.{eqb}
 use lib.ListN.{length}
 use borrow.Author.Tests.{le-leb, eqb-true, ne-eqb}
 use Rattle.verdict.proofs.Bools.{decided}
-use Rattle.text.specs.Class.{within}
+use Rattle.letters.specs.Class.{within}
 use Rattle.text.specs.Reading.{Word, Line, nth}
 use Rattle.number.specs.Count.{value, isCount}
 use Rattle.layout.specs.Grammar.{Typed, sectionOf, opens, wordsOf, countRight, openFault}

@@ -12,7 +12,7 @@ use lib.ListN.{length, take, drop, set, length-drop}
 use lib.Seq.{take-suc-set, drop-set-add, drop-set-lt, take-set-le}
 use borrow.Author.Tests.{eqb-true, ltb-true}
 use Rattle.verdict.proofs.Bools.{test, decided}
-use Rattle.text.specs.Class.{within}
+use Rattle.letters.specs.Class.{within}
 use Rattle.number.specs.Count.{value, isCount}
 use Rattle.layout.specs.declared.Progress.{Progress}
 use Rattle.text.specs.Reading.{Word, Line, nth}

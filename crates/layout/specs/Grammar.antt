@@ -8,8 +8,8 @@ use lib.Dec.{leb, ltb, eqb}
 use Rattle.verdict.specs.declared.Answer.{Answer}
 use Rattle.verdict.specs.Verdict.{refused, accepted}
 use Rattle.verdict.specs.Lowest.{anyUnder}
-use Rattle.text.specs.Class.{within}
-use Rattle.text.specs.Name.{same, isName, sameName}
+use Rattle.letters.specs.Class.{within}
+use Rattle.names.specs.Name.{same, isName, sameName}
 use Rattle.number.specs.Count.{value, isCount}
 use Rattle.number.specs.Number.{numberOf}
 use Rattle.text.specs.Reading.{Word, Line, nth, Grammar, readLines}

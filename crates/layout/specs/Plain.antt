@@ -5,7 +5,7 @@ use mathlib.Core.Bool.{true, false}
 use mathlib.Core.List.{List, [], _∷_, _++_}
 use Prim.Native.Nat.{ℕ, _<_}
 use lib.ListN.{length, getD}
-use Rattle.text.specs.Name.{isName, sameName}
+use Rattle.names.specs.Name.{isName, sameName}
 use Rattle.text.specs.Reading.{Word, Line, nth, spoken}
 use Rattle.number.specs.Count.{value, isCount}
 use Rattle.number.specs.Number.{Decimal}

@@ -8,7 +8,7 @@ use lib.ListN.{length, take, drop, set, getD}
 use lib.Dec.{ltb, eqb}
 use Rattle.verdict.specs.declared.Answer.{Answer}
 use Rattle.text.specs.Scan.{words, lineAt}
-use Rattle.text.specs.Name.{isName}
+use Rattle.names.specs.Name.{isName}
 use Rattle.number.specs.Count.{value, isCount}
 use Rattle.layout.specs.declared.Progress.{Progress}
 use Rattle.layout.specs.declared.Layout.{Layout}

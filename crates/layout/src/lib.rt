@@ -5,7 +5,7 @@ ghost use mathlib.Core.Path.{_≡_};
 ghost use mathlib.Core.Bool.{true};
 ghost use Prim.Native.Nat.{_≤_};
 ghost use lib.ListN.{length};
-ghost use Rattle.text.specs.Name.{isName};
+ghost use Rattle.names.specs.Name.{isName};
 ghost use Rattle.layout.specs.Grammar.{namesOf, knownBut};
 ghost use Rattle.layout.specs.Layout.{grammar};
 ghost use Rattle.layout.specs.Starts.{held, Named, Found, Answered};

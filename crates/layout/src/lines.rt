@@ -1,7 +1,7 @@
 // A line of a layout: what is wrong with it, and what it adds to what the reader keeps.
 use super::Progress;
 use super::is_known;
-use text::is_name;
+use names::is_name;
 use text::line_at;
 use text::word;
 use text::word_count;
@@ -11,7 +11,7 @@ ghost use Prim.Native.Nat.{_+_, _-_, _<_, _≤_};
 ghost use lib.ListN.{length, getD};
 ghost use lib.Dec.{eqb};
 ghost use Rattle.text.specs.Scan.{words};
-ghost use Rattle.text.specs.Name.{isName, sameName};
+ghost use Rattle.names.specs.Name.{isName, sameName};
 ghost use Rattle.text.specs.Reading.{nth};
 ghost use Rattle.layout.specs.Grammar.{sectionOf, follows, opens, placed, wordsOf, countRight, openFault, entryFault, fault};
 ghost use Rattle.layout.specs.Starts.{entryAt, stateOf, countIn, entered, movedTo, slotOf, kept, Named};
@@ -20,22 +20,22 @@ ghost use Rattle.layout.specs.Starts.{entryAt, stateOf, countIn, entered
 pub(crate) fn section_of(w: &[u8]) -> usize
     ensures { λ r. ⌜ r ≡ sectionOf (now (w .entry)) ⌝ }
 {
-    if text::same_word(w, b"beginlayout") {
+    if names::same_word(w, b"beginlayout") {
         return 1;
     }
-    if text::same_word(w, b"roomcount") {
+    if names::same_word(w, b"roomcount") {
         return 2;
     }
-    if text::same_word(w, b"trackcount") {
+    if names::same_word(w, b"trackcount") {
         return 3;
     }
-    if text::same_word(w, b"obstaclecount") {
+    if names::same_word(w, b"obstaclecount") {
         return 4;
     }
-    if text::same_word(w, b"doorhookcount") {
+    if names::same_word(w, b"doorhookcount") {
         return 5;
     }
-    if text::same_word(w, b"donelayout") {
+    if names::same_word(w, b"donelayout") {
         return 6;
     }
     0
@@ -145,7 +145,7 @@ pub(crate) fn is_named(s: &[u8], starts: &[usize], j: usize, but: usize, w: &[u8
     if j == but {
         return false;
     }
-    text::same_name(w, word(line_at(s, starts[j]), 0))
+    names::same_name(w, word(line_at(s, starts[j]), 0))
 }
 
 // What is wrong with an entry. Only rooms are checked for 37.

@@ -8,10 +8,10 @@ use Rattle.verdict.specs.declared.Answer.{Answer}
 use Rattle.verdict.specs.declared.Form.{Form}
 use Rattle.verdict.proofs.Verdict.{then-next, then-stop}
 use Rattle.verdict.proofs.Output.{Answers, refused-form, first-refuses, second-refuses, third-decides}
-use Rattle.text.specs.Name.{lowered}
+use Rattle.letters.specs.Case.{lowered}
 use Rattle.text.specs.Reading.{Word}
 use Rattle.text.specs.Written.{rule40}
-use Rattle.text.proofs.NameLaws.{name-long}
+use Rattle.names.proofs.NameLaws.{name-long}
 use Rattle.layout.specs.declared.Layout.{Layout}
 use Rattle.layout.specs.Layout.{layoutVerdict, layoutOf}
 use Rattle.rooms.specs.Rooms.{nameVerdict}

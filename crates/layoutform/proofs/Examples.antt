@@ -4,10 +4,11 @@ use mathlib.Core.List.{List, [], _∷_}
 use Prim.Native.Nat.{ℕ}
 use Rattle.verdict.specs.Lowest.{lowest, anyUnder}
 use Rattle.verdict.specs.Verdict.{rule, ruleOfEach, _then_}
-use Rattle.text.specs.Class.{classOf, isDigit, isBlank, isReturn, isRefused, isGap, isEnd, nameByte}
+use Rattle.letters.specs.Class.{classOf, isDigit, isBlank, isReturn, isRefused, isGap, isEnd, nameByte}
 use Rattle.text.specs.Scan.{run, grow, split, keep, nonempty, words, lines}
 use Rattle.text.specs.Sound.{badAt, rule31, rule32, rules31to32}
-use Rattle.text.specs.Name.{same, lower, lowered, isName, sameName}
+use Rattle.names.specs.Name.{same, isName, sameName}
+use Rattle.letters.specs.Case.{lower, lowered}
 use Rattle.number.specs.Count.{value, isCount}
 use Rattle.number.specs.Number.{minus, count, says, right, some, none, numberOf, fixed, width, plain, fraction, printed, sixed}
 use Rattle.text.specs.Written.{after, spaced, written, wordLines}

@@ -9,12 +9,12 @@ use lib.ListN.{length, length-map}
 use borrow.Author.Tests.{le-ltb}
 use Rattle.verdict.specs.declared.Answer.{Answer}
 use Rattle.verdict.specs.Verdict.{accepted, rule}
-use Rattle.text.specs.Class.{classOf, nameByte}
+use Rattle.letters.specs.Class.{classOf, nameByte}
 use Rattle.text.specs.Scan.{run}
 use Rattle.text.specs.Sound.{rules31to32}
-use Rattle.text.specs.Name.{isName}
+use Rattle.names.specs.Name.{isName}
 use Rattle.text.proofs.WrittenLaws.{AllLines, Plain, written-read, written-sound}
-use Rattle.text.proofs.WordLaws.{name-plain}
+use Rattle.names.proofs.WordLaws.{name-plain}
 use Rattle.number.proofs.WordLaws.{count-plain}
 use Rattle.text.specs.Reading.{Word, Line}
 use Rattle.layout.specs.Grammar.{Reading, start, readFrom, beginlayout, roomcount, trackcount, obstaclecount, doorhookcount, donelayout}

@@ -8,7 +8,7 @@ use Rattle.number.specs.declared.Num.{Num}
 use Rattle.number.specs.Number.{printed, plain, sixed}
 use Rattle.text.specs.Written.{after, spaced, written}
 use Rattle.number.proofs.DigitLaws.{plain-short, printed-short}
-use Rattle.text.proofs.NameLaws.{name-long}
+use Rattle.names.proofs.NameLaws.{name-long}
 use Rattle.text.specs.Reading.{Word, Line}
 use Rattle.layout.specs.Grammar.{beginlayout, roomcount, trackcount, obstaclecount, doorhookcount, donelayout}
 use Rattle.layoutform.specs.Form.{Entry, LayoutParts, entryLine, section, form, formText}

@@ -7,13 +7,15 @@ use native.Mathlib.Omega.{arith}
 use lib.ListN.{length, length-map}
 use Rattle.verdict.proofs.Lists.{map-at}
 use Rattle.number.specs.declared.Num.{Num}
-use Rattle.text.specs.Name.{isName, lowered}
+use Rattle.names.specs.Name.{isName}
+use Rattle.letters.specs.Case.{lowered}
 use Rattle.number.specs.Number.{numberOf, printed, sixed, Said}
-use Rattle.text.proofs.NameLaws.{name-lowered, lowered-again, same-name-lowered, same-name-sym}
+use Rattle.names.proofs.NameLaws.{name-lowered, same-name-lowered, same-name-sym}
+use Rattle.letters.proofs.CaseLaws.{lowered-again}
 use Rattle.number.proofs.NumberTrip.{read-said, sixed-read, sixed-again}
 use Rattle.number.proofs.DecimalLaws.{decimal-ok, read-decimal}
 use Rattle.text.proofs.WrittenLaws.{AllPlain}
-use Rattle.text.proofs.WordLaws.{name-plain}
+use Rattle.names.proofs.WordLaws.{name-plain}
 use Rattle.number.proofs.WordLaws.{number-plain}
 use Rattle.text.specs.Reading.{Word, Line, nth}
 use Rattle.layout.specs.Grammar.{Typed, namesOf}

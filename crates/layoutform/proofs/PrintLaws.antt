@@ -14,12 +14,13 @@ use Rattle.verdict.proofs.Bools.{decided}
 use Rattle.verdict.proofs.Lists.{map-at}
 use Rattle.number.specs.declared.Num.{Num}
 use Rattle.text.specs.Scan.{words, lineAt}
-use Rattle.text.specs.Name.{lowered}
+use Rattle.letters.specs.Case.{lowered}
 use Rattle.number.specs.Number.{numberOf, printed, plain, sixed}
-use Rattle.text.specs.Write.{Wrote}
+use Rattle.printer.specs.Write.{Wrote}
 use Rattle.text.specs.Written.{after, spaced, written}
-use Rattle.text.proofs.NameLaws.{name-long, length-lowered}
-use Rattle.text.proofs.WriteLaws.{wrote-none, wrote-then, wrote-is}
+use Rattle.names.proofs.NameLaws.{name-long}
+use Rattle.letters.proofs.CaseLaws.{length-lowered}
+use Rattle.printer.proofs.WriteLaws.{wrote-none, wrote-then, wrote-is}
 use Rattle.text.specs.Reading.{Word, Line, nth}
 use Rattle.layoutform.specs.Form.{Entry, entryOf, entryLine, section}
 use Rattle.layoutform.specs.Rewrite.{entryNamed, renamedAt}

@@ -17,8 +17,10 @@ use Rattle.verdict.proofs.Bools.{decided}
 use Rattle.verdict.proofs.Lists.{map-at}
 use Rattle.verdict.proofs.Lowest.{none-under, any-same}
 use Rattle.verdict.proofs.Verdict.{passed, unbroken}
-use Rattle.text.specs.Name.{isName, lowered, sameName}
-use Rattle.text.proofs.NameLaws.{name-lowered, lowered-again, same-name-lowered, same-name-sym}
+use Rattle.names.specs.Name.{isName, sameName}
+use Rattle.letters.specs.Case.{lowered}
+use Rattle.names.proofs.NameLaws.{name-lowered, same-name-lowered, same-name-sym}
+use Rattle.letters.proofs.CaseLaws.{lowered-again}
 use Rattle.text.specs.Reading.{Word}
 use Rattle.layout.specs.Layout.{layoutVerdict, layoutOf}
 use Rattle.layoutform.specs.Form.{Entry, partsOf, partsOfTyped, sixedParts, formText}

@@ -4,11 +4,11 @@ use mathlib.Core.List.{List, [], _∷_, _++_, map, append-nil}
 use Prim.Native.Nat.{ℕ, suc, _+_, _≤_, _<_}
 use native.Mathlib.Omega.{arith}
 use lib.ListN.{length, length-map}
-use Rattle.text.specs.Name.{lowered}
+use Rattle.letters.specs.Case.{lowered}
 use Rattle.number.specs.Number.{plain}
-use Rattle.text.specs.Write.{Wrote}
+use Rattle.printer.specs.Write.{Wrote}
 use Rattle.text.specs.Written.{spaced, after, written}
-use Rattle.text.proofs.WriteLaws.{wrote-then}
+use Rattle.printer.proofs.WriteLaws.{wrote-then}
 use Rattle.layout.specs.declared.Layout.{Layout}
 use Rattle.text.specs.Reading.{Word, Line}
 use Rattle.layout.specs.Grammar.{beginlayout, roomcount, trackcount, obstaclecount, doorhookcount, donelayout}
@@ -22,7 +22,7 @@ use Rattle.layout.proofs.ReadLaws.{layout-good}
 use Rattle.layout.proofs.HeldLaws.{held-long, held-at}
 use Rattle.layoutform.proofs.LengthLaws.{written-append, written-long, head-short}
 use Rattle.layoutform.proofs.RenameLaws.{renamed-past}
-use Rattle.text.proofs.WriteLaws.{wrote-is}
+use Rattle.printer.proofs.WriteLaws.{wrote-is}
 
 -- ---- how far a line comes
 

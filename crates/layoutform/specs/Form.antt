@@ -3,7 +3,7 @@ use Prim.Native.Nat.{ℕ}
 use mathlib.Core.List.{List, [], _∷_, _++_, map}
 use lib.ListN.{length}
 use Rattle.number.specs.declared.Num.{Num}
-use Rattle.text.specs.Name.{lowered}
+use Rattle.letters.specs.Case.{lowered}
 use Rattle.number.specs.Number.{numberOf, printed, plain, sixed}
 use Rattle.text.specs.Written.{written}
 use Rattle.text.specs.Reading.{Word, Line, nth}

@@ -10,9 +10,9 @@ ghost use Prim.Native.Nat.{_+_, _-_, _*_, _^_, _<_, _≤_};
 ghost use lib.ListN.{length};
 ghost use Rattle.verdict.specs.Output.{formAnswer, formMemory};
 ghost use Rattle.text.specs.Scan.{words};
-ghost use Rattle.text.specs.Name.{lowered};
+ghost use Rattle.letters.specs.Case.{lowered};
 ghost use Rattle.number.specs.Number.{numberOf, printed, plain, sixed};
-ghost use Rattle.text.specs.Write.{Wrote};
+ghost use Rattle.printer.specs.Write.{Wrote};
 ghost use Rattle.text.specs.Written.{written, rule40};
 ghost use Rattle.text.specs.Reading.{nth};
 ghost use Rattle.layout.specs.Layout.{layoutOf};
@@ -26,8 +26,8 @@ pub(crate) fn put_coordinate(out: &mut [u8], at: usize, l: &[u8], k: usize) -> u
     ensures { λ r. ⌜ Wrote (now (out .entry)) (now (out .exit)) at r (32 ∷ printed (sixed (numberOf (nth (words (now (l .entry))) k)))) ⌝ }
 {
     let x = number::number(word(l, k));
-    let e = text::put_byte(out, at, 32);
-    number::put_number(out, e, number::with_six(x))
+    let e = printer::put_byte(out, at, 32);
+    printer::put_number(out, e, number::with_six(x))
 }
 
 // An entry's line with a name: the name in lower case, the line's three numbers, LF.
@@ -35,11 +35,11 @@ pub(crate) fn put_entry(out: &mut [u8], at: usize, w: &[u8], l: &[u8]) -> usize
     requires { ⌜ (at < 2 ^ 28) × (length (now w) ≤ 16) ⌝ }
     ensures { λ r. ⌜ Wrote (now (out .entry)) (now (out .exit)) at r (written (entryLine (entryNamed (now (w .entry)) (words (now (l .entry)))) ∷ [])) ⌝ }
 {
-    let a = text::put_lowered(out, at, w);
+    let a = printer::put_lowered(out, at, w);
     let b = put_coordinate(out, a, l, 1);
     let c = put_coordinate(out, b, l, 2);
     let d = put_coordinate(out, c, l, 3);
-    text::put_byte(out, d, 10)
+    printer::put_byte(out, d, 10)
 }
 
 // An entry's line, with another name if it is to have one.
@@ -83,8 +83,8 @@ pub(crate) fn put_key(out: &mut [u8], at: usize, key: &[u8]) -> usize
     requires { ⌜ (at < 2 ^ 28) × (length (now key) ≤ 13) ⌝ }
     ensures { λ r. ⌜ Wrote (now (out .entry)) (now (out .exit)) at r (written ((now (key .entry) ∷ []) ∷ [])) ⌝ }
 {
-    let e = text::put_word(out, at, key);
-    text::put_byte(out, e, 10)
+    let e = printer::put_word(out, at, key);
+    printer::put_byte(out, e, 10)
 }
 
 // A keyword with its count, and LF.
@@ -92,10 +92,10 @@ pub(crate) fn put_head(out: &mut [u8], at: usize, key: &[u8], n: usize) -> usize
     requires { ⌜ (at < 2 ^ 28) × (length (now key) ≤ 13) ⌝ }
     ensures { λ r. ⌜ Wrote (now (out .entry)) (now (out .exit)) at r (written ((now (key .entry) ∷ plain n ∷ []) ∷ [])) ⌝ }
 {
-    let a = text::put_word(out, at, key);
-    let b = text::put_byte(out, a, 32);
-    let c = number::put_plain(out, b, n as u64);
-    text::put_byte(out, c, 10)
+    let a = printer::put_word(out, at, key);
+    let b = printer::put_byte(out, a, 32);
+    let c = printer::put_plain(out, b, n as u64);
+    printer::put_byte(out, c, 10)
 }
 
 // A section: its keyword, its count, its entries.

@@ -36,7 +36,7 @@ pub fn face_of(bytes: &[u8], n: usize) -> usize
     tables::word_of(bytes, 5, n, 6) as usize
 }
 
-pub fn plane_of(bytes: &[u8], n: usize) -> u32
+fn plane_of(bytes: &[u8], n: usize) -> u32
     requires { ⌜ RightHeader (now bytes) × (n < (partsOf (now bytes) .nodes)) ⌝ }
     ensures { λ r. ⌜ r ≡ planeOf (partsOf (now (bytes .entry))) n ⌝ }
 {

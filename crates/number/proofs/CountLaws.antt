@@ -10,7 +10,7 @@ use lib.ListN.{length}
 use lib.Seq.{take-length}
 use borrow.Author.Tests.{eq-eqb, ne-eqb, eqb-true, leb-true, le-leb, lt-ltb}
 use Rattle.verdict.proofs.Bools.{and-true, and-no}
-use Rattle.text.specs.Class.{within, isDigit}
+use Rattle.letters.specs.Class.{within, isDigit}
 use Rattle.text.specs.Scan.{run}
 use Rattle.number.specs.Count.{value, isCount}
 use Rattle.number.specs.Number.{count, says, plain, width}

@@ -12,7 +12,7 @@ use lib.Seq.{drop-append-seam, drop-append-add, take-append-seam, take-length, t
 use borrow.Author.Tests.{leb-true, eqb-true, le-leb, eq-eqb, ne-eqb}
 use Rattle.verdict.proofs.Bools.{clash, test, and-true}
 use Rattle.number.specs.declared.Num.{Num}
-use Rattle.text.specs.Class.{classOf, isDigit, within}
+use Rattle.letters.specs.Class.{classOf, isDigit, within}
 use Rattle.text.specs.Scan.{run}
 use Rattle.number.specs.Count.{value}
 use Rattle.number.specs.Number.{sign, pointed, Decimal, millionthsOf, count, says, minus, right, some, none, numberOf}

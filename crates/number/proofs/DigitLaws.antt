@@ -12,7 +12,7 @@ use lib.ListN.{length, getD, take, drop, length-drop, length-append}
 use lib.Seq.{take-suc, getD-drop}
 use borrow.Author.Tests.{leb-true, ltb-true}
 use Rattle.number.specs.declared.Num.{Num}
-use Rattle.text.specs.Class.{classOf, isDigit, within}
+use Rattle.letters.specs.Class.{classOf, isDigit, within}
 use Rattle.text.specs.Scan.{run}
 use Rattle.number.specs.Count.{value}
 use Rattle.number.specs.Number.{count, says, fixed, width, plain, fraction, sign, printed}

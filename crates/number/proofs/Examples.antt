@@ -2,9 +2,9 @@
 use mathlib.Core.Path.{_≡_, refl}
 use mathlib.Core.Bool.{true, false}
 use mathlib.Core.List.{[], _∷_}
-use Rattle.text.specs.Class.{classOf, isDigit}
+use Rattle.letters.specs.Class.{classOf, isDigit}
 use Rattle.text.specs.Scan.{run}
-use Rattle.text.specs.Name.{lower, lowered}
+use Rattle.letters.specs.Case.{lower, lowered}
 use Rattle.text.specs.Written.{after, spaced}
 use Rattle.number.specs.Count.{value}
 use Rattle.number.specs.Number.{minus, count, says, right, some, none, numberOf, fixed, width, plain, fraction, printed, sixed}

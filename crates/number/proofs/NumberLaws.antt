@@ -7,7 +7,7 @@ use native.Mathlib.Omega.{arith}
 use lib.Dec.{eqb, leb}
 use lib.ListN.{length, getD, drop, length-drop}
 use borrow.Author.Tests.{leb-true, eqb-true, eq-eqb, ne-eqb}
-use Rattle.text.specs.Class.{isDigit, within}
+use Rattle.letters.specs.Class.{isDigit, within}
 use Rattle.number.specs.Number.{count, says, minus, right, some, none, numberOf}
 use Rattle.text.proofs.RunLaws.{run-le}
 use Rattle.verdict.proofs.Bools.{and-true}

@@ -12,7 +12,7 @@ use lib.Pow.{pow-add}
 use borrow.Author.Tests.{eq-eqb, ne-eqb}
 use Rattle.verdict.proofs.Bools.{clash, test}
 use Rattle.number.specs.declared.Num.{Num}
-use Rattle.text.specs.Class.{isDigit}
+use Rattle.letters.specs.Class.{isDigit}
 use Rattle.text.specs.Scan.{run}
 use Rattle.number.specs.Count.{value}
 use Rattle.number.specs.Number.{count, says, minus, right, some, none, numberOf, fixed, width, plain, pointed, fraction, printed, sixed, sign, Decimal, millionthsOf, Said}

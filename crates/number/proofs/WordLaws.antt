@@ -7,7 +7,7 @@ use native.Mathlib.Omega.{arith}
 use lib.ListN.{length, length-append}
 use Rattle.verdict.specs.Lowest.{lowest, anyUnder, allUnder}
 use Rattle.number.specs.declared.Num.{Num}
-use Rattle.text.specs.Class.{classOf, wordByte}
+use Rattle.letters.specs.Class.{classOf, wordByte}
 use Rattle.text.specs.Scan.{run}
 use Rattle.number.specs.Number.{sign, fixed, plain, width, fraction, printed}
 use Rattle.text.proofs.RunLaws.{run-nil, all-cons, all-append}

@@ -4,7 +4,7 @@ use mathlib.Core.Bool.{Bool, _&&_}
 use mathlib.Core.List.{List, [], _∷_}
 use lib.Dec.{leb, eqb}
 use lib.ListN.{length}
-use Rattle.text.specs.Class.{within, isDigit}
+use Rattle.letters.specs.Class.{within, isDigit}
 use Rattle.text.specs.Scan.{run}
 
 -- the digits read one after the other, after a number already read

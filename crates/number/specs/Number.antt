@@ -7,7 +7,7 @@ use mathlib.Core.List.{List, [], _∷_, _++_}
 use lib.ListN.{length, getD, take, drop}
 use lib.Dec.{ltb, eqb}
 use Rattle.number.specs.declared.Num.{Num}
-use Rattle.text.specs.Class.{isDigit, within}
+use Rattle.letters.specs.Class.{isDigit, within}
 use Rattle.text.specs.Scan.{run}
 use Rattle.number.specs.Count.{value}
 

@@ -1,14 +1,12 @@
-// Counts (rule 36) and numbers (rule 35) of a layout text: read from a word, and printed.
-use text::class::is_digit;
-use text::class::is_within;
-use text::put_byte;
+// Counts (rule 36) and numbers (rule 35) of a layout text: read from a word.
+use letters::is_digit;
+use letters::is_within;
 ghost use mathlib.Core.Path.{_≡_};
 ghost use mathlib.Core.Bool.{true};
 ghost use Prim.Native.Nat.{_+_, _-_, _*_, _^_, _<_, _≤_};
 ghost use lib.ListN.{length};
-ghost use Rattle.text.specs.Write.{Wrote};
 ghost use Rattle.number.specs.Count.{value, isCount};
-ghost use Rattle.number.specs.Number.{numberOf, printed, count, says, fixed, some, none, minus, right, width, plain, fraction, sign, sixed};
+ghost use Rattle.number.specs.Number.{numberOf, count, says, some, none, minus, right, sixed};
 
 // A number: sign and magnitude in whole millionths, and how many digits stood after the point.
 pub struct Num {
@@ -107,7 +105,7 @@ fn no_number() -> Num
 const SCALES: [u64; 7] = [1000000, 100000, 10000, 1000, 100, 10, 1];
 
 // What a last digit weighs, in millionths, where m digits stand after the point.
-fn scale(m: usize) -> u64
+pub fn scale(m: usize) -> u64
     requires { ⌜ m ≤ 6 ⌝ }
     ensures { λ r. ⌜ r ≡ 10 ^ (6 - m) ⌝ }
 {
@@ -180,81 +178,4 @@ pub fn with_six(x: Num) -> Num
         millionths: x.millionths,
         places: 6,
     }
-}
-
-// ---- printers
-
-// The last k digits of v.
-pub fn put_fixed(out: &mut [u8], at: usize, k: usize, v: u64) -> usize
-    requires { ⌜ at + k < 2 ^ 32 ⌝ }
-    ensures { λ r. ⌜ Wrote (now (out .entry)) (now (out .exit)) at r (fixed k v) ⌝ }
-{
-    if k == 0 {
-        return at;
-    }
-    let e = put_fixed(out, at, k - 1, v / 10);
-    put_byte(out, e, (48 + v % 10) as u8)
-}
-
-// A minus, if there is one.
-fn put_minus(out: &mut [u8], at: usize, neg: bool) -> usize
-    requires { ⌜ at < 2 ^ 32 ⌝ }
-    ensures { λ r. ⌜ Wrote (now (out .entry)) (now (out .exit)) at r (sign neg) ⌝ }
-{
-    if neg {
-        return put_byte(out, at, 45);
-    }
-    at
-}
-
-// How many digits a number below 100,000 has.
-fn width_of(v: u64) -> usize
-    ensures { λ r. ⌜ r ≡ width v ⌝ }
-{
-    if v < 10 {
-        return 1;
-    }
-    if v < 100 {
-        return 2;
-    }
-    if v < 1000 {
-        return 3;
-    }
-    if v < 10000 {
-        return 4;
-    }
-    5
-}
-
-// A whole number with no needless leading zeros.
-pub fn put_plain(out: &mut [u8], at: usize, v: u64) -> usize
-    requires { ⌜ at < 2 ^ 31 ⌝ }
-    ensures { λ r. ⌜ Wrote (now (out .entry)) (now (out .exit)) at r (plain v) ⌝ }
-{
-    put_fixed(out, at, width_of(v), v)
-}
-
-// A point and p digits of the millionths v, or nothing.
-fn put_fraction(out: &mut [u8], at: usize, p: usize, v: u64) -> usize
-    requires { ⌜ (at < 2 ^ 31) × (p ≤ 6) ⌝ }
-    ensures { λ r. ⌜ Wrote (now (out .entry)) (now (out .exit)) at r (fraction p v) ⌝ }
-{
-    if p == 0 {
-        return at;
-    }
-    let d = scale(p);
-    let e = put_byte(out, at, 46);
-    put_fixed(out, e, p, v % 1000000 / d)
-}
-
-// A number as it is printed.
-pub fn put_number(out: &mut [u8], at: usize, x: Num) -> usize
-    requires { ⌜ (at < 2 ^ 30) × (x .places ≤ 6) ⌝ }
-    ensures { λ r. ⌜ Wrote (now (out .entry)) (now (out .exit)) at r (printed x) ⌝ }
-{
-    let v = x.millionths;
-    let p = x.places;
-    let i = put_minus(out, at, x.neg);
-    let j = put_plain(out, i, v / 1000000);
-    put_fraction(out, j, p, v)
 }

@@ -18,7 +18,7 @@ use Rattle.verdict.specs.declared.Answer.{Answer}
 use Rattle.verdict.proofs.Bools.{clash, decided, and-true}
 use Rattle.verdict.proofs.Lowest.{lowest-is}
 use Rattle.verdict.proofs.Verdict.{passed, unbroken, met, each-passes, then-both}
-use Rattle.grid.specs.Box.{between, holdsXY}
+use Rattle.boxes.specs.Box.{between, holdsXY}
 use Rattle.grid.specs.Plain.{OnGrid}
 use Rattle.grid.proofs.Grid.{grid-on}
 use Rattle.triangle.proofs.Weights.{held}

@@ -13,11 +13,12 @@ use borrow.Author.Tests.{not-false}
 use Rattle.verdict.proofs.Bools.{clash, and-true, true-and}
 use Rattle.whole.proofs.Mean.{Mean, low-times, high-times}
 use Rattle.grid.specs.Grid.{finite, signed, onGrid, scaled, gridFloat}
-use Rattle.grid.specs.Plain.{OnGrid, HoldsPoint}
-use Rattle.grid.specs.Box.{between, holdsXY, boxOfBits}
+use Rattle.grid.specs.Plain.{OnGrid}
+use Rattle.boxes.specs.Plain.{HoldsPoint}
+use Rattle.boxes.specs.Box.{between, holdsXY, boxOfBits}
 use Rattle.grid.proofs.Grid.{on-grid, scaled-small}
 use Rattle.grid.proofs.Order.{le-grid, grid-le, le-scaled, scaled-le}
-use Rattle.grid.proofs.Boxes.{inner-back, holds-inner}
+use Rattle.boxes.proofs.Boxes.{inner-back, holds-inner}
 use Rattle.triangle.proofs.Corners.{x-mean, y-mean}
 use Rattle.tables.specs.Parts.{Parts, partsOf, corner, nodeWord}
 use Rattle.mesh.proofs.Plain.{finite-test}

@@ -2,15 +2,13 @@
 use mathlib.Core.Path.{_≡_, _∙_}
 use mathlib.Core.Bool.{Bool, true, false, not, _&&_}
 use Prim.Native.Nat.{ℕ}
-use native.Mathlib.Nat.{lt-trans}
 use lib.IntN.{ℤ, natAbs}
-use lib.Dec.{lit<}
 use borrow.Author.Tests.{le-leb}
 use mir.Syntax.{w32, w64}
 use mir.Val.{SFits, toZ, ofZ}
 use mir.ValLaws.{toZ-ofZ}
 use Rattle.wire.specs.Signed.{Within}
-use Rattle.wire.proofs.Signed.{read, read-is, read-within}
+use Rattle.wire.proofs.Signed.{read, read-is, read-within, wider}
 use Rattle.grid.specs.declared.Scaled64.{Scaled64}
 use Rattle.grid.specs.Grid.{onGrid, within}
 use Rattle.grid.specs.Answers.{scaledAt}
@@ -21,11 +19,7 @@ use Rattle.tree.specs.Boxes.{vertexFloat}
 use Rattle.query.specs.Rules.{offGrid}
 use Rattle.query.specs.Points.{cornerAt, faceHolds}
 
--- what fits in 32 bits fits in 64
-pub wider : (z : ℤ) → SFits w32 z → SFits w64 z
-wider z h = record { sfits = lt-trans (h .sfits) (lit< tt) }
-
--- so a 32-bit number that was widened and passed on is read as it was handed in
+-- a 32-bit number that was widened and passed on is read as it was handed in
 pub handed : (x : ℤ) → SFits w32 x → (r : ℤ) → r ≡ toZ w32 (ofZ w32 x) → read r ≡ x
 handed x h r e = rw (e ∙ toZ-ofZ w32 x h) (toZ-ofZ w64 x (wider x h))
 

@@ -7,8 +7,8 @@ use native.Mathlib.Omega.{arith}
 use lib.IntN.{ℤ}
 use lib.ListN.{length}
 use Rattle.verdict.proofs.Bools.{and-true}
-use Rattle.grid.specs.Box.{holdsXY}
-use Rattle.grid.specs.declared.Box.{Box}
+use Rattle.boxes.specs.Box.{holdsXY}
+use Rattle.boxes.specs.declared.Box.{Box}
 use Rattle.tables.specs.Parts.{Parts, partsOf}
 use Rattle.nodes.specs.Nodes.{Nodes, nodesOf, faceOf, leftOf, rightOf}
 use Rattle.tree.specs.Tree.{ends}

@@ -11,7 +11,7 @@ use Rattle.verdict.specs.Verdict.{ifAccepted}
 use Rattle.verdict.specs.declared.Answer.{Answer}
 use Rattle.wire.specs.Signed.{Within}
 use Rattle.grid.specs.Grid.{scaled, gridFloat}
-use Rattle.grid.specs.Box.{holdsXY}
+use Rattle.boxes.specs.Box.{holdsXY}
 use Rattle.triangle.specs.Triangle.{inTriangle}
 use Rattle.tables.specs.Parts.{Parts, partsOf, corner}
 use Rattle.nodes.specs.Nodes.{nodesOf}

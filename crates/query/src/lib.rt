@@ -55,13 +55,6 @@ const REACH: u32 = 65536;
 // The most steps from the root to a node.
 const DEPTH: usize = 64;
 
-// A number as the engine hands it over, in the width that all is computed in.
-fn widened(z: i32) -> i64
-    ensures { λ r. ⌜ r ≡ z ⌝ }
-{
-    z as i64
-}
-
 // Whether x and y are within reach.
 fn is_in_reach(x: i64, y: i64) -> bool
     ensures { λ r. ⌜ r ≡ (within 65536 x && within 65536 y) ⌝ }
@@ -154,7 +147,7 @@ fn goes_on(bytes: &[u8], at: Spot, n: usize) -> bool
     if !nodes::is_inner_node(bytes, n) {
         return false;
     }
-    grid::holds_xy(tree::box_of(bytes, n), at.fx, at.fy)
+    boxes::holds_xy(tree::box_of(bytes, n), at.fx, at.fy)
 }
 
 // What node n gives by itself: one node seen, and its face if it is a leaf whose face holds the point.
@@ -300,5 +293,5 @@ pub fn query(bytes: &[u8], work: &mut [u8], x: i32, y: i32) -> Point
     if so.number != 0 {
         return refused(so);
     }
-    asked(bytes, widened(x), widened(y))
+    asked(bytes, wire::widened(x), wire::widened(y))
 }

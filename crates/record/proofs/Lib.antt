@@ -1,4 +1,1 @@
 pub mod Records
-pub mod Laying
-pub mod Allowed
-pub mod Area

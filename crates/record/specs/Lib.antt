@@ -1,4 +1,1 @@
 pub mod Record
-pub mod Allowed
-pub mod Kind
-pub mod Area

@@ -1,18 +1,14 @@
-// One record of the journal: its bytes here, what may be written in `rules`, and the record laid on a floor in `words`. This file and
-// specs/Record.antt are all that knows a record's form.
+// One record of the journal: its bytes. This file and specs/Record.antt are all that knows a record's form.
 ghost use mathlib.Core.Path.{_≡_};
 ghost use Prim.Native.Nat.{_+_, _≤_};
 ghost use lib.ListN.{length};
 ghost use Rattle.wire.specs.Bytes.{put};
 ghost use Rattle.record.specs.Record.{size, made, flip, recordBytes, recordAt};
 
-pub mod rules;
-pub mod words;
-
 // The bytes that a record takes, and what its length field says.
 pub const SIZE: usize = 15;
 
-pub(crate) const BODY: u32 = 12;
+pub const BODY: u32 = 12;
 
 // A journal record as it stands.
 pub struct Rec {

@@ -10,7 +10,7 @@ use borrow.Author.Tests.{lt-ltb, le-ltb}
 use Rattle.verdict.specs.declared.Answer.{Answer}
 use Rattle.verdict.specs.Verdict.{accepted, refused, rule, _then_}
 use Rattle.text.specs.Scan.{words, lineAt}
-use Rattle.text.specs.Name.{isName}
+use Rattle.names.specs.Name.{isName}
 use Rattle.layout.specs.declared.Layout.{Layout}
 use Rattle.rooms.specs.declared.Rooms.{Rooms}
 use Rattle.text.specs.Reading.{Word, nth}

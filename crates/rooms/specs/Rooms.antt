@@ -6,7 +6,7 @@ use lib.ListN.{length}
 use lib.Dec.{ltb}
 use Rattle.verdict.specs.declared.Answer.{Answer}
 use Rattle.verdict.specs.Verdict.{rule, _then_}
-use Rattle.text.specs.Name.{isName}
+use Rattle.names.specs.Name.{isName}
 use Rattle.text.specs.Reading.{Word}
 use Rattle.rooms.specs.declared.Rooms.{Rooms}
 use Rattle.layout.specs.Grammar.{namesOf, knownBut}

@@ -1,6 +1,6 @@
 // The rooms of a layout: how many there are, their names, and whether one may have a typed name.
 use layout::Layout;
-use text::is_name;
+use names::is_name;
 use text::line_at;
 use text::word;
 use verdict::Answer;

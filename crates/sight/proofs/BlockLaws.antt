@@ -11,9 +11,10 @@ use borrow.Author.Tests.{lt-ltb, eq-eqb, ne-eqb, eqb-true}
 use Rattle.verdict.specs.Verdict.{accepted}
 use Rattle.verdict.proofs.Bools.{test}
 use Rattle.verdict.proofs.Lowest.{lowest-is}
-use Rattle.text.specs.Name.{isName, lowered, sameName}
+use Rattle.names.specs.Name.{isName, sameName}
+use Rattle.letters.specs.Case.{lowered}
 use Rattle.text.specs.Reading.{Word, Line, nth, spoken, readLines}
-use Rattle.text.proofs.NameLaws.{same-true}
+use Rattle.names.proofs.NameLaws.{same-true}
 use Rattle.text.proofs.ReadingLaws.{read-end}
 use Rattle.text.proofs.AcceptLaws as accept
 use Rattle.text.proofs.AcceptLaws.{Steady}

@@ -9,9 +9,9 @@ use borrow.Author.Tests.{lt-ltb}
 use Rattle.verdict.specs.Lowest.{lowest}
 use Rattle.verdict.proofs.Bools.{test, clash}
 use Rattle.verdict.proofs.Lowest.{lowest-hit, lowest-all, lowest-done}
-use Rattle.text.specs.Name.{isName, sameName}
+use Rattle.names.specs.Name.{isName, sameName}
 use Rattle.text.specs.Reading.{Word}
-use Rattle.text.proofs.NameLaws.{same-name-name, name-long}
+use Rattle.names.proofs.NameLaws.{same-name-name, name-long}
 use Rattle.layout.specs.Starts.{Named, keptName}
 use Rattle.layout.proofs.EachLaws.{length-names}
 use Rattle.layout.proofs.HeldLaws.{held-long, room-name}

@@ -6,8 +6,9 @@ use Prim.Native.Nat.{ℕ, _≤_, _<_}
 use native.Mathlib.Omega.{arith}
 use lib.ListN.{length, getD}
 use Rattle.verdict.proofs.Lowest.{lowest-is, lowest-only}
-use Rattle.text.specs.Name.{lowered, sameName}
-use Rattle.text.proofs.NameLaws.{same-refl}
+use Rattle.letters.specs.Case.{lowered}
+use Rattle.names.specs.Name.{sameName}
+use Rattle.names.proofs.NameLaws.{same-refl}
 use Rattle.text.specs.Reading.{Word}
 use Rattle.layout.proofs.EachLaws.{Apart}
 use Rattle.sight.specs.Grammar.{roomOf}

@@ -13,7 +13,7 @@ use lib.Seq.{getD-set-same, getD-set-other, set-out}
 use borrow.Author.Tests.{eqb-true, eqb-false, ltb-true, not-false}
 use Rattle.verdict.specs.Verdict.{accepted}
 use Rattle.verdict.proofs.Bools.{test, decided}
-use Rattle.text.specs.Name.{isName}
+use Rattle.names.specs.Name.{isName}
 use Rattle.number.specs.Count.{value, isCount}
 use Rattle.number.proofs.CountLaws.{count-within}
 use Rattle.text.proofs.ReadingLaws.{read-next, read-stop, read-end}

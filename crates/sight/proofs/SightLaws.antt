@@ -12,7 +12,7 @@ use borrow.Author.Tests.{eqb-true, eqb-false, eq-eqb, ne-eqb}
 use Rattle.verdict.specs.declared.Answer.{Answer}
 use Rattle.verdict.proofs.Bools.{test}
 use Rattle.verdict.proofs.Verdict.{passed, then-next, then-stop, Proper, then-proper}
-use Rattle.text.specs.Name.{isName}
+use Rattle.names.specs.Name.{isName}
 use Rattle.text.specs.Sound.{rules31to32}
 use Rattle.layout.specs.Layout.{layoutVerdict, layoutOf}
 use Rattle.rooms.specs.Rooms.{roomNames}

@@ -8,7 +8,7 @@ use lib.Dec.{ltb}
 use lib.ListN.{length, getD, drop}
 use borrow.Author.Tests.{eq-eqb, ne-eqb, lt-ltb, le-ltb, ltb-false}
 use Rattle.verdict.proofs.Bools.{test}
-use Rattle.text.specs.Class.{isEnd}
+use Rattle.letters.specs.Class.{isEnd}
 use Rattle.number.specs.Count.{isCount}
 use Rattle.text.specs.Scan.{run, apart, words, lineAt}
 use Rattle.text.specs.Reading.{Word, Line, nth, readLines}

@@ -8,7 +8,7 @@ use lib.Dec.{ltb, eqb}
 use Rattle.verdict.specs.declared.Answer.{Answer}
 use Rattle.verdict.specs.Verdict.{refused, accepted}
 use Rattle.verdict.specs.Lowest.{lowest}
-use Rattle.text.specs.Name.{isName, sameName}
+use Rattle.names.specs.Name.{isName, sameName}
 use Rattle.number.specs.Count.{value, isCount}
 use Rattle.text.specs.Reading.{Word, Line, nth, Grammar}
 use Rattle.sight.specs.declared.Looking.{Looking}

@@ -99,6 +99,17 @@ pub fn look(layout: &[u8], r: Layout, s: &[u8]) -> Sight
     read_lines(layout, &starts, n, s)
 }
 
+// Visibility against a layout.
+fn read(layout: &[u8], vis: &[u8]) -> Sight
+    ensures { λ v. ⌜ v ≡ sightOf (now (layout .entry)) (now (vis .entry)) ⌝ }
+{
+    let r = layout::read(layout);
+    if r.number != 0 {
+        return refused_sight(r.number, r.place);
+    }
+    look(layout, r, vis)
+}
+
 // ---- what other crates call
 
 // Whether mark j of a row is set.
@@ -109,17 +120,6 @@ pub fn is_seen(row: u64, j: usize) -> bool
         return (row >> j) % 2 == 1;
     }
     false
-}
-
-// Visibility against a layout.
-pub fn read(layout: &[u8], vis: &[u8]) -> Sight
-    ensures { λ v. ⌜ v ≡ sightOf (now (layout .entry)) (now (vis .entry)) ⌝ }
-{
-    let r = layout::read(layout);
-    if r.number != 0 {
-        return refused_sight(r.number, r.place);
-    }
-    look(layout, r, vis)
 }
 
 // A room's row, and how many rooms it sees.

@@ -1,9 +1,9 @@
 // A line of visibility: the room that it names, what is wrong with it, and what it adds.
 use super::Looking;
 use super::is_seen;
+use names::is_name;
 use number::is_count;
 use rooms::room_name;
-use text::is_name;
 use text::word;
 use text::word_count;
 ghost use mathlib.Core.Path.{_≡_};
@@ -11,7 +11,7 @@ ghost use mathlib.Core.Bool.{true, false};
 ghost use Prim.Native.Nat.{_+_, _<_, _≤_};
 ghost use lib.ListN.{length, getD};
 ghost use Rattle.text.specs.Scan.{words};
-ghost use Rattle.text.specs.Name.{isName};
+ghost use Rattle.names.specs.Name.{isName};
 ghost use Rattle.number.specs.Count.{isCount};
 ghost use Rattle.text.specs.Reading.{nth};
 ghost use Rattle.layout.specs.Starts.{Named};
@@ -34,7 +34,7 @@ pub(crate) fn find_room(layout: &[u8], starts: &[usize], n: usize, w: &[u8]) -> 
 {
     let mut j = 0;
     while j < n {
-        if text::same_name(w, room_name(layout, starts, j)) {
+        if names::same_name(w, room_name(layout, starts, j)) {
             return j;
         }
         j += 1;

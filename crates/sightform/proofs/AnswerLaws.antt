@@ -10,7 +10,7 @@ use Rattle.verdict.specs.declared.Form.{Form}
 use Rattle.verdict.specs.Verdict.{accepted, refused}
 use Rattle.verdict.proofs.Verdict.{then-next, then-stop}
 use Rattle.verdict.proofs.Output.{Answers, refused-form, first-refuses, second-refuses, third-decides}
-use Rattle.text.specs.Name.{lowered}
+use Rattle.letters.specs.Case.{lowered}
 use Rattle.text.specs.Reading.{Word}
 use Rattle.text.specs.Written.{rule40}
 use Rattle.layout.specs.declared.Layout.{Layout}

@@ -15,18 +15,18 @@ use Rattle.verdict.specs.declared.Form.{Form}
 use Rattle.verdict.specs.Verdict.{refused, rule}
 use Rattle.verdict.proofs.Bools.{test, decided}
 use Rattle.verdict.proofs.Lists.{map-at}
-use Rattle.text.specs.Name.{lowered}
+use Rattle.letters.specs.Case.{lowered}
 use Rattle.number.specs.Number.{plain}
-use Rattle.text.specs.Write.{Wrote}
+use Rattle.printer.specs.Write.{Wrote}
 use Rattle.text.specs.Written.{spaced, after}
 use Rattle.text.specs.Reading.{Word}
-use Rattle.text.proofs.NameLaws.{length-lowered}
-use Rattle.text.proofs.WriteLaws.{wrote-none, wrote-then, dry-run}
+use Rattle.letters.proofs.CaseLaws.{length-lowered}
+use Rattle.printer.proofs.WriteLaws.{wrote-none, wrote-then, dry-run}
 use Rattle.layout.specs.Starts.{keptName}
 use Rattle.text.specs.Written.{rule40}
-use Rattle.text.proofs.WriteLaws.{wrote-is}
+use Rattle.printer.proofs.WriteLaws.{wrote-is}
 use Rattle.verdict.proofs.Output.{Answers, refused-form}
-use Rattle.text.proofs.FitLaws.{too-short, long-enough}
+use Rattle.printer.proofs.FitLaws.{too-short, long-enough}
 use Rattle.sight.specs.Rows.{sees}
 use Rattle.sightform.specs.Form.{seenTo, seenLine, roomLines, linesTo, ended, sightText}
 use Rattle.sightform.specs.Code.{noForm, printedNames}

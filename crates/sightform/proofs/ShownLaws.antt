@@ -7,10 +7,11 @@ use Prim.Native.Nat.{ℕ, suc}
 use lib.ListN.{length, set, length-map, length-set}
 use Rattle.verdict.proofs.Lists.{map-at}
 use Rattle.verdict.proofs.Lowest.{lowest-same}
-use Rattle.text.specs.Name.{isName, lowered}
+use Rattle.names.specs.Name.{isName}
+use Rattle.letters.specs.Case.{lowered}
 use Rattle.text.specs.Reading.{Word, Line, nth, readLines}
 use Rattle.text.specs.Written.{wordLines}
-use Rattle.text.proofs.NameLaws.{same-name-lowered, same-name-sym}
+use Rattle.names.proofs.NameLaws.{same-name-lowered, same-name-sym}
 use Rattle.layout.specs.Grammar.{Typed, namesOf}
 use Rattle.layoutform.specs.Form.{Entry, LayoutParts, partsOf, formText}
 use Rattle.layoutform.specs.Rewrite.{renamed}

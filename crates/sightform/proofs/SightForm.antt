@@ -14,13 +14,14 @@ use lib.Seq.{getD-set-same, getD-set-other, set-set, set-getD, ext-getD}
 use borrow.Author.Tests.{lt-ltb, ne-eqb}
 use Rattle.verdict.specs.Verdict.{accepted}
 use Rattle.verdict.proofs.Bools.{test, decided}
-use Rattle.text.specs.Name.{isName, lowered}
+use Rattle.names.specs.Name.{isName}
+use Rattle.letters.specs.Case.{lowered}
 use Rattle.number.specs.Number.{plain}
 use Rattle.text.specs.Scan.{words}
 use Rattle.text.specs.Written.{spaced}
 use Rattle.text.proofs.ReadingLaws.{read-next, read-end}
 use Rattle.number.proofs.CountLaws.{plain-value, plain-count}
-use Rattle.text.proofs.WordLaws.{name-plain, name-word}
+use Rattle.names.proofs.WordLaws.{name-plain, name-word}
 use Rattle.number.proofs.WordLaws.{count-plain}
 use Rattle.text.proofs.WrittenLaws.{words-spaced, words-space}
 use Rattle.text.specs.Reading.{Word, Line, readLines}

@@ -13,17 +13,19 @@ use Rattle.verdict.specs.Verdict.{accepted}
 use Rattle.verdict.proofs.Bools.{or-false}
 use Rattle.verdict.proofs.Lists.{map-at}
 use Rattle.verdict.proofs.Verdict.{unbroken}
-use Rattle.text.specs.Class.{isEnd, wordByte}
-use Rattle.text.specs.Name.{isName, lowered}
+use Rattle.letters.specs.Class.{isEnd, wordByte}
+use Rattle.names.specs.Name.{isName}
+use Rattle.letters.specs.Case.{lowered}
 use Rattle.number.specs.Number.{plain}
 use Rattle.text.specs.Scan.{run, apart, words}
 use Rattle.text.specs.Sound.{rules31to32}
 use Rattle.text.specs.Written.{spaced, wordLines}
-use Rattle.text.proofs.ClassLaws.{calm, word-calm}
-use Rattle.text.proofs.NameLaws.{name-lowered, lowered-again}
+use Rattle.letters.proofs.ClassLaws.{calm, word-calm}
+use Rattle.names.proofs.NameLaws.{name-lowered}
+use Rattle.letters.proofs.CaseLaws.{lowered-again}
 use Rattle.text.proofs.RunLaws.{run-nil, all-from}
 use Rattle.text.proofs.SoundLaws.{calm-sound}
-use Rattle.text.proofs.WordLaws.{name-plain}
+use Rattle.names.proofs.WordLaws.{name-plain}
 use Rattle.number.proofs.WordLaws.{count-plain}
 use Rattle.text.proofs.WrittenLaws.{plain-inline, inline-spaced, calm-spaced, inline-space, calm-space, lines-none, line-read, line-calm}
 use Rattle.text.specs.Reading.{Word, Line, readLines}

@@ -3,7 +3,7 @@ use Prim.Native.Nat.{ℕ}
 use mathlib.Core.List.{List, map}
 use lib.ListN.{set}
 use Rattle.verdict.specs.declared.Form.{Form}
-use Rattle.text.specs.Name.{lowered}
+use Rattle.letters.specs.Case.{lowered}
 use Rattle.text.specs.Reading.{Word}
 use Rattle.sight.specs.Code.{keptNames}
 

@@ -4,7 +4,7 @@ use mathlib.Core.List.{List, map}
 use lib.ListN.{set}
 use Rattle.verdict.specs.declared.Answer.{Answer}
 use Rattle.verdict.specs.Verdict.{_then_}
-use Rattle.text.specs.Name.{lowered}
+use Rattle.letters.specs.Case.{lowered}
 use Rattle.text.specs.Reading.{Word}
 use Rattle.rooms.specs.Rooms.{roomNames, nameVerdict}
 use Rattle.text.specs.Written.{rule40}

@@ -1,8 +1,8 @@
 // The fixed form of visibility, printed: names, lines, rooms, and rule 40.
 use super::refused_form;
+use printer::put_byte;
 use rooms::room_name;
 use sight::is_seen;
-use text::put_byte;
 use verdict::Form;
 ghost use mathlib.Core.Path.{_≡_};
 ghost use mathlib.Core.Bool.{cond};
@@ -11,8 +11,8 @@ ghost use Prim.Native.Nat.{_+_, _*_, _^_, _<_, _≤_};
 ghost use lib.ListN.{length};
 ghost use lib.Dec.{eqb};
 ghost use Rattle.verdict.specs.Output.{formAnswer, formMemory};
-ghost use Rattle.text.specs.Name.{lowered};
-ghost use Rattle.text.specs.Write.{Wrote};
+ghost use Rattle.letters.specs.Case.{lowered};
+ghost use Rattle.printer.specs.Write.{Wrote};
 ghost use Rattle.text.specs.Written.{rule40};
 ghost use Rattle.layout.specs.Starts.{Named, keptName};
 ghost use Rattle.sight.specs.Rows.{sees};
@@ -33,9 +33,9 @@ pub(crate) fn put_name(
     ensures { λ r. ⌜ Wrote (now (out .entry)) (now (out .exit)) at r (lowered (cond (eqb j i) (now (name .entry)) (keptName (now (layout .entry)) (now (starts .entry)) j))) ⌝ }
 {
     if j == i {
-        return text::put_lowered(out, at, name);
+        return printer::put_lowered(out, at, name);
     }
-    text::put_lowered(out, at, room_name(layout, starts, j))
+    printer::put_lowered(out, at, room_name(layout, starts, j))
 }
 
 // A seen room: two spaces, the name, LF.
@@ -121,7 +121,7 @@ pub(crate) fn put_room(
     let seen = u64::count_ones(row);
     let a = put_name(out, at, layout, starts, k, i, name);
     let b = put_byte(out, a, 32);
-    let c = number::put_plain(out, b, seen as u64);
+    let c = printer::put_plain(out, b, seen as u64);
     let d = put_byte(out, c, 10);
     put_seen(out, d, layout, starts, n, row, i, name)
 }

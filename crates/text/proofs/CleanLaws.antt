@@ -11,11 +11,11 @@ use lib.Dec.{eqb}
 use lib.ListN.{length, getD}
 use borrow.Author.Tests.{not-true}
 use Rattle.verdict.proofs.Bools.{clash, test}
-use Rattle.text.specs.Class.{classOf, isRefused, isBlank, isGap, isEnd, wordByte, isReturn}
+use Rattle.letters.specs.Class.{classOf, isRefused, isBlank, isGap, isEnd, wordByte, isReturn}
 use Rattle.text.specs.Scan.{run, apart, grow, split, keep, nonempty, words, lines}
 use Rattle.text.specs.Written.{wordLines}
 use Rattle.text.specs.Sound.{bare, rules31to32}
-use Rattle.text.proofs.ClassLaws.{word-byte, nought-no-end}
+use Rattle.letters.proofs.ClassLaws.{word-byte, nought-no-end}
 use Rattle.text.proofs.RunLaws.{run-nil, run-at, run-of, all-cons, all-first}
 use Rattle.text.proofs.SplitLaws.{split-on, split-off, split-nil, words-nil}
 use Rattle.text.proofs.SoundLaws.{sound-known, sound-return}

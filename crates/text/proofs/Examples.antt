@@ -1,7 +1,7 @@
 -- A worked example, computed. Assumes nothing.
 use mathlib.Core.Path.{_≡_, refl}
 use mathlib.Core.List.{[], _∷_}
-use Rattle.text.specs.Class.{classOf, isBlank, isReturn, isGap, isEnd}
+use Rattle.letters.specs.Class.{classOf, isBlank, isReturn, isGap, isEnd}
 use Rattle.text.specs.Scan.{grow, split, keep, nonempty, words, lines}
 use Rattle.text.specs.Written.{wordLines}
 

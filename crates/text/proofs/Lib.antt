@@ -1,13 +1,8 @@
-pub mod ClassLaws
 pub mod RunLaws
-pub mod NameLaws
 pub mod SoundLaws
 pub mod SplitLaws
 pub mod ReadingLaws
 pub mod AcceptLaws
-pub mod WriteLaws
-pub mod FitLaws
 pub mod WrittenLaws
-pub mod WordLaws
 pub mod CleanLaws
 pub mod Examples

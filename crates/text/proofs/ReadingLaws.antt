@@ -1,11 +1,11 @@
 -- Reading line by line: one line, several lines, and the lines of a text from a place on. Assumes nothing.
-use mathlib.Core.Path.{_≡_, refl, ap}
+use mathlib.Core.Path.{_≡_, refl}
 use mathlib.Core.List.{List, [], _∷_, map}
 use Prim.Native.Nat.{ℕ, suc, _+_, _≤_, _<_}
 use native.Mathlib.Numerals.{add-one}
 use lib.ListN.{length, drop}
 use borrow.Author.Tests.{eq-eqb, ne-eqb}
-use Rattle.text.specs.Class.{isEnd}
+use Rattle.letters.specs.Class.{isEnd}
 use Rattle.text.specs.Scan.{run, apart, words, lines, lineAt}
 use Rattle.text.specs.Written.{wordLines}
 use Rattle.text.specs.Reading.{Line, Grammar, readLines}

@@ -12,11 +12,11 @@ use Rattle.verdict.specs.Lowest.{lowest}
 use Rattle.verdict.specs.Verdict.{accepted, refused, rule, ruleOfEach, _then_}
 use Rattle.verdict.proofs.Verdict.{passed, unbroken, met, each-met, each-passes, then-both}
 use Rattle.verdict.proofs.Bools.{or-false, and-false, and-true}
-use Rattle.text.specs.Class.{classOf, isRefused, isEnd, isReturn}
+use Rattle.letters.specs.Class.{classOf, isRefused, isEnd, isReturn}
 use Rattle.text.specs.Scan.{run, apart}
 use Rattle.text.specs.Sound.{badAt, rule31, rule32, rules31to32}
 use Rattle.text.proofs.RunLaws.{run-at}
-use Rattle.text.proofs.ClassLaws.{calm, nought-no-end}
+use Rattle.letters.proofs.ClassLaws.{calm, nought-no-end}
 
 -- ---- one byte
 

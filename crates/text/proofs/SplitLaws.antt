@@ -4,9 +4,11 @@ use mathlib.Core.Bool.{Bool, true, false, not}
 use mathlib.Core.List.{List, [], _∷_, _++_, append-nil}
 use Prim.Native.Nat.{ℕ, zero, suc, _+_, _-_, _≤_, _<_}
 use native.Mathlib.Omega.{arith}
+use native.Mathlib.Decide.{decLt}
 use lib.ListN.{length, getD, take, drop, take-append-drop, length-drop, drop-of-length-le}
 use lib.Seq.{length-take-le, drop-drop}
-use Rattle.text.specs.Class.{isGap, isEnd}
+use Rattle.verdict.proofs.Bools.{decided}
+use Rattle.letters.specs.Class.{isGap, isEnd}
 use Rattle.text.specs.Scan.{run, apart, grow, split, keep, nonempty, words, lines, lineAt}
 use Rattle.text.proofs.RunLaws.{run-nil, run-cons-on, run-cons-off, run-take, run-drop, run-le}
 
@@ -213,6 +215,18 @@ unfolding lineAt
 line-step s from e he h =
     let k : e - from ≡ run (apart isEnd) (drop from s) = omega arith in
     rw (← k) (line-cut s from e he h)
+
+-- past the end no line starts
+pub line-past : (s : List ℕ) (from : ℕ) → length s ≤ from → lineAt s from ≡ []
+unfolding lineAt
+line-past s from h = rw (drop-of-length-le s h, run-nil (apart isEnd))
+
+-- the first line from a place on starts there
+pub line-first : (s : List ℕ) (from : ℕ) → lineAt s from ≡ getD (lines (drop from s)) 0 []
+line-first s from =
+    decided (decLt from (length s))
+    (λ h. rw (line-step s from _ refl h))
+    (λ h. let l : length s ≤ from = omega arith in rw (line-none s from l, line-past s from l))
 
 module _ (l : List ℕ) (from a e : ℕ) (ha : a ≡ from + run isGap (drop from l)) (he : e ≡ a + run inWord (drop a l)) where
   pub cursor-none : e ≡ a → words (drop from l) ≡ []

@@ -6,11 +6,11 @@ use Prim.Native.Nat.{ℕ, suc, _≤_, _<_}
 use native.Mathlib.Omega.{arith}
 use lib.ListN.{length}
 use Rattle.verdict.specs.Verdict.{accepted}
-use Rattle.text.specs.Class.{classOf, isRefused, isReturn, isGap, isEnd, wordByte}
+use Rattle.letters.specs.Class.{classOf, isRefused, isReturn, isGap, isEnd, wordByte}
 use Rattle.text.specs.Scan.{run, apart, words, lines}
 use Rattle.text.specs.Sound.{rules31to32}
 use Rattle.text.specs.Written.{after, spaced, written, wordLines}
-use Rattle.text.proofs.ClassLaws.{calm, word-solid, word-inline, word-calm}
+use Rattle.letters.proofs.ClassLaws.{calm, word-solid, word-inline, word-calm}
 use Rattle.text.proofs.RunLaws.{run-nil, run-cons-off, all-cons, all-append, all-from}
 use Rattle.text.proofs.SplitLaws.{split-join, split-last, split-nil, words-nil, words-gap, words-word}
 use Rattle.text.proofs.SoundLaws.{calm-sound}

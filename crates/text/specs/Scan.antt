@@ -3,7 +3,7 @@ use Prim.Native.Nat.{ℕ, zero, suc}
 use mathlib.Core.Bool.{Bool, cond, not}
 use mathlib.Core.List.{List, [], _∷_}
 use lib.ListN.{take, drop}
-use Rattle.text.specs.Class.{isGap, isEnd}
+use Rattle.letters.specs.Class.{isGap, isEnd}
 
 -- how many bytes at the start pass the test, one after the other. All bytes of w pass it where `run p w ≡ length w`
 unfoldable pub run : (ℕ → Bool) → List ℕ → ℕ

@@ -6,7 +6,7 @@ use lib.Dec.{ltb}
 use lib.ListN.{length, getD}
 use Rattle.verdict.specs.declared.Answer.{Answer}
 use Rattle.verdict.specs.Verdict.{rule, ruleOfEach, _then_}
-use Rattle.text.specs.Class.{isRefused, isEnd, isReturn}
+use Rattle.letters.specs.Class.{isRefused, isEnd, isReturn}
 
 -- a refused byte or a CR not before LF
 unfoldable pub badAt : List ℕ → ℕ → Bool

@@ -1,23 +1,17 @@
-// Layout text, all that knows no grammar and no number: rules 31 and 32, lines, words, names, and their printers.
-use class::class_of;
-use class::is_end;
-use class::is_gap;
-use class::is_name_byte;
-use class::is_within;
+// Layout text, all that knows no grammar: rules 31 and 32, lines and words.
+use letters::class_of;
+use letters::is_end;
+use letters::is_gap;
 use verdict::Answer;
 ghost use mathlib.Core.Path.{_≡_};
-ghost use mathlib.Core.Bool.{true, cond};
-ghost use mathlib.Core.List.{List, [], _∷_, _++_};
-ghost use Prim.Native.Nat.{ℕ, _+_, _-_, _*_, _^_, _<_, _≤_};
-ghost use lib.ListN.{length, take, drop, getD};
+ghost use mathlib.Core.Bool.{true};
+ghost use mathlib.Core.List.{[]};
+ghost use Prim.Native.Nat.{_+_, _-_, _<_};
+ghost use lib.ListN.{length, drop, getD};
 ghost use Rattle.verdict.specs.Lowest.{lowest};
-ghost use Rattle.text.specs.Class.{isGap, isEnd, nameByte};
+ghost use Rattle.letters.specs.Class.{isGap, isEnd};
 ghost use Rattle.text.specs.Scan.{run, words, apart, lines, lineAt};
 ghost use Rattle.text.specs.Sound.{badAt, rules31to32};
-ghost use Rattle.text.specs.Name.{same, lower, lowered, isName, sameName};
-ghost use Rattle.text.specs.Write.{Wrote};
-
-pub mod class;
 
 // ---- rules 31 and 32
 
@@ -73,30 +67,30 @@ pub fn sound_verdict(s: &[u8]) -> Answer
 pub fn skip_gap(l: &[u8], at: usize) -> usize
     ensures { λ r. ⌜ r ≡ at + run isGap (drop at (now (l .entry))) ⌝ }
 {
-    let mut i = at;
-    while i < l.len() {
-        if is_gap(l[i]) {
-            i += 1;
+    let mut a = at;
+    while a < l.len() {
+        if is_gap(l[a]) {
+            a += 1;
         } else {
-            return i;
+            return a;
         }
     }
-    i
+    a
 }
 
 // The end of the word that starts at `at`.
 fn skip_word(l: &[u8], at: usize) -> usize
     ensures { λ r. ⌜ r ≡ at + run (apart isGap) (drop at (now (l .entry))) ⌝ }
 {
-    let mut i = at;
-    while i < l.len() {
-        if is_gap(l[i]) {
-            return i;
+    let mut e = at;
+    while e < l.len() {
+        if is_gap(l[e]) {
+            return e;
         } else {
-            i += 1;
+            e += 1;
         }
     }
-    i
+    e
 }
 
 // Word k of a line, empty where the line has fewer.
@@ -137,15 +131,15 @@ pub fn word_count(l: &[u8]) -> usize
 pub fn line_end(s: &[u8], at: usize) -> usize
     ensures { λ r. ⌜ r ≡ at + run (apart isEnd) (drop at (now (s .entry))) ⌝ }
 {
-    let mut i = at;
-    while i < s.len() {
-        if is_end(s[i]) {
-            return i;
+    let mut lf = at;
+    while lf < s.len() {
+        if is_end(s[lf]) {
+            return lf;
         } else {
-            i += 1;
+            lf += 1;
         }
     }
-    i
+    lf
 }
 
 // The line that starts at a place, empty past the end.
@@ -172,135 +166,5 @@ pub fn line(s: &[u8], k: usize) -> &[u8]
         at = line_end(s, at) + 1;
         i += 1;
     }
-    if s.len() <= at {
-        return &s[..0];
-    }
-    let e = line_end(s, at);
-    &s[at..e]
-}
-
-// ---- names
-
-// How many bytes at the start may stand in a name.
-fn name_end(w: &[u8]) -> usize
-    ensures { λ r. ⌜ r ≡ run nameByte (now (w .entry)) ⌝ }
-{
-    let mut i = 0;
-    while i < w.len() {
-        if is_name_byte(w[i]) {
-            i += 1;
-        } else {
-            return i;
-        }
-    }
-    i
-}
-
-// 34: 1 to 16 letters, digits, underscores.
-pub fn is_name(w: &[u8]) -> bool
-    ensures { λ r. ⌜ r ≡ isName (now (w .entry)) ⌝ }
-{
-    if is_within(1, 16, w.len()) {
-        return name_end(w) == w.len();
-    }
-    false
-}
-
-// The same bytes, as a keyword is compared.
-pub fn same_word(a: &[u8], b: &[u8]) -> bool
-    ensures { λ r. ⌜ r ≡ same (now (a .entry)) (now (b .entry)) ⌝ }
-{
-    if a.len() != b.len() {
-        return false;
-    }
-    let mut i = 0;
-    while i < a.len() {
-        if a[i] != b[i] {
-            return false;
-        }
-        i += 1;
-    }
-    true
-}
-
-// A byte in lower case.
-pub fn low(b: u8) -> u8
-    ensures { λ r. ⌜ r ≡ lower b ⌝ }
-{
-    if b < 65 {
-        return b;
-    }
-    if 90 < b {
-        return b;
-    }
-    b + 32
-}
-
-// The byte at i in lower case, 0 past the end.
-fn low_at(w: &[u8], i: usize) -> u8
-    ensures { λ r. ⌜ r ≡ lower (getD (now (w .entry)) i 0) ⌝ }
-{
-    if i < w.len() {
-        return low(w[i]);
-    }
-    0
-}
-
-// Two names are the same, letter case ignored: all sixteen places are compared.
-pub fn same_name(a: &[u8], b: &[u8]) -> bool
-    requires { ⌜ (isName (now a) ≡ true) × (isName (now b) ≡ true) ⌝ }
-    ensures { λ r. ⌜ r ≡ sameName (now (a .entry)) (now (b .entry)) ⌝ }
-{
-    let mut alike = true;
-    let mut i = 0;
-    while i < 16 {
-        if low_at(a, i) != low_at(b, i) {
-            alike = false;
-        }
-        i += 1;
-    }
-    alike
-}
-
-// ---- printers
-
-// One byte, if there is room for it.
-pub fn put_byte(out: &mut [u8], at: usize, b: u8) -> usize
-    requires { ⌜ at < 2 ^ 32 ⌝ }
-    ensures { λ r. ⌜ Wrote (now (out .entry)) (now (out .exit)) at r (b ∷ []) ⌝ }
-{
-    let next = at + 1;
-    if at < out.len() {
-        out[at] = b;
-        return next;
-    }
-    next
-}
-
-// A word, byte by byte.
-pub fn put_word(out: &mut [u8], at: usize, w: &[u8]) -> usize
-    requires { ⌜ at + length (now w) < 2 ^ 32 ⌝ }
-    ensures { λ r. ⌜ Wrote (now (out .entry)) (now (out .exit)) at r (now (w .entry)) ⌝ }
-{
-    let mut e = at;
-    let mut i = 0;
-    while i < w.len() {
-        e = put_byte(out, e, w[i]);
-        i += 1;
-    }
-    e
-}
-
-// A name in lower case.
-pub fn put_lowered(out: &mut [u8], at: usize, w: &[u8]) -> usize
-    requires { ⌜ at + length (now w) < 2 ^ 32 ⌝ }
-    ensures { λ r. ⌜ Wrote (now (out .entry)) (now (out .exit)) at r (lowered (now (w .entry))) ⌝ }
-{
-    let mut e = at;
-    let mut i = 0;
-    while i < w.len() {
-        e = put_byte(out, e, low(w[i]));
-        i += 1;
-    }
-    e
+    line_at(s, at)
 }

@@ -11,9 +11,9 @@ use Rattle.verdict.proofs.Bools.{and-true, true-and}
 use Rattle.verdict.proofs.Lowest.{all-true, true-all}
 use Rattle.verdict.proofs.Verdict.{each-met, each-passes}
 use Rattle.grid.specs.Grid.{finite}
-use Rattle.grid.specs.Box.{FiniteBits, holdsBox}
-use Rattle.grid.specs.Plain.{HoldsBox, HoldsPoint}
-use Rattle.grid.proofs.Boxes.{point-held, held-point, inner, inner-back}
+use Rattle.boxes.specs.Box.{FiniteBits, holdsBox}
+use Rattle.boxes.specs.Plain.{HoldsBox, HoldsPoint}
+use Rattle.boxes.proofs.Boxes.{point-held, held-point, inner, inner-back}
 use Rattle.tables.specs.Parts.{Parts, vertexWord, corner, nodeWord}
 use Rattle.mesh.specs.Mesh.{Finite}
 use Rattle.mesh.proofs.Plain.{finite-test}
@@ -25,16 +25,8 @@ use Rattle.tree.specs.Plain.{BoxesHold}
 
 -- ---- what rule 7 gives
 
-pub box-finite : (p : Parts) (n : ℕ) → Finite p → n < p .nodes
-    → FiniteBits (nodeWord p n 0) (nodeWord p n 1) (nodeWord p n 2) (nodeWord p n 3) (nodeWord p n 4) (nodeWord p n 5)
-box-finite p n f l = record {
-  first = finite-test _ (f .box n 0 l (omega arith));
-  second = finite-test _ (f .box n 1 l (omega arith));
-  third = finite-test _ (f .box n 2 l (omega arith));
-  fourth = finite-test _ (f .box n 3 l (omega arith));
-  fifth = finite-test _ (f .box n 4 l (omega arith));
-  sixth = finite-test _ (f .box n 5 l (omega arith));
-}
+pub node-finite : (p : Parts) (n e w : ℕ) → Finite p → n < p .nodes → e < 6 → w ≡ nodeWord p n e → finite (ofBits binary32 w) ≡ true
+node-finite p n e w f l m q = rw q (finite-test _ (f .box n e l m))
 
 pub vertex-finite : (p : Parts) (v e w : ℕ) → Finite p → v < p .vertices → e < 3 → w ≡ vertexWord p v e → finite (ofBits binary32 w) ≡ true
 vertex-finite p v e w f l m q = rw q (finite-test _ (f .vertex v e l m))

@@ -6,8 +6,8 @@ use lib.Ieee.{Float, binary32, ofBits}
 use Rattle.verdict.specs.Lowest.{allUnder}
 use Rattle.verdict.specs.Verdict.{ruleOfEach, _then_}
 use Rattle.verdict.specs.declared.Answer.{Answer}
-use Rattle.grid.specs.Box.{boxOfBits, holdsPoint, holdsBox}
-use Rattle.grid.specs.declared.Box.{Box}
+use Rattle.boxes.specs.Box.{boxOfBits, holdsPoint, holdsBox}
+use Rattle.boxes.specs.declared.Box.{Box}
 use Rattle.tables.specs.Parts.{Parts, vertexWord, corner, nodeWord}
 use Rattle.nodes.specs.Nodes.{nodesOf, faceOf, leftOf, rightOf}
 use Rattle.tree.specs.Tree.{rule13}

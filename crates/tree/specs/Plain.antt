@@ -6,7 +6,7 @@ use mathlib.Core.Bool.{Bool, false, cond}
 use mathlib.Core.List.{List, [], _∷_}
 use mathlib.Core.Option.{Option, none, some}
 use lib.ListN.{length}
-use Rattle.grid.specs.Plain.{HoldsBox, HoldsPoint}
+use Rattle.boxes.specs.Plain.{HoldsBox, HoldsPoint}
 use Rattle.tables.specs.Parts.{Parts, corner}
 use Rattle.nodes.specs.Nodes.{Nodes, faceOf, leftOf, rightOf, nodesOf}
 use Rattle.nodes.specs.Plain.{Leaf, Inner}

@@ -1,5 +1,5 @@
 // One tree over a floor's faces, and boxes that hold: rules 13 and 14.
-use grid::Box;
+use boxes::Box;
 use verdict::Answer;
 ghost use mathlib.Core.Path.{_≡_};
 ghost use mathlib.Core.Bool.{not, _&&_};
@@ -10,7 +10,7 @@ ghost use Rattle.verdict.specs.Lists.{once};
 ghost use Rattle.verdict.specs.Memory.{workSize, clearedTo, isMarked, fresh, marked};
 ghost use Rattle.tables.specs.Header.{RightHeader};
 ghost use Rattle.tables.specs.Parts.{partsOf};
-ghost use Rattle.grid.specs.Box.{holdsPoint};
+ghost use Rattle.boxes.specs.Box.{holdsPoint};
 ghost use Rattle.mesh.specs.Mesh.{Finite, Cornered};
 ghost use Rattle.nodes.specs.Nodes.{faceOf, leftOf, rightOf, nodesOf};
 ghost use Rattle.nodes.specs.Plain.{Closed};
@@ -108,7 +108,7 @@ fn covers(bytes: &[u8], work: &mut [u8]) -> bool
 }
 
 // 13: whether the nodes, hanging from node 0, are one tree.
-pub fn one_tree(bytes: &[u8], work: &mut [u8]) -> bool
+fn one_tree(bytes: &[u8], work: &mut [u8]) -> bool
     requires closed { ⌜ RightHeader (now bytes) × Closed (partsOf (now bytes)) ⌝ }
     requires room { ⌜ workSize ≤ length (now work) ⌝ }
     ensures answer { λ r. ⌜ r ≡ oneTree (nodesOf (partsOf (now (bytes .entry)))) (faceOf (partsOf (now (bytes .entry)))) 0 (partsOf (now (bytes .entry)) .nodes) (partsOf (now (bytes .entry)) .faces) ⌝ }
@@ -135,7 +135,7 @@ pub fn box_of(bytes: &[u8], n: usize) -> Box
     let d = tables::word_of(bytes, 5, n, 3);
     let e = tables::word_of(bytes, 5, n, 4);
     let f = tables::word_of(bytes, 5, n, 5);
-    grid::box_of_bits(a, b, c, d, e, f)
+    boxes::box_of_bits(a, b, c, d, e, f)
 }
 
 // Whether a box holds vertex v.
@@ -147,7 +147,7 @@ fn holds_vertex(bytes: &[u8], own: Box, v: usize) -> bool
     let x = grid::float_of_bits(tables::word_of(bytes, 0, v, 0));
     let y = grid::float_of_bits(tables::word_of(bytes, 0, v, 1));
     let z = grid::float_of_bits(tables::word_of(bytes, 0, v, 2));
-    grid::holds_point(own, x, y, z)
+    boxes::holds_point(own, x, y, z)
 }
 
 // Whether node n's box holds corner e of face f.
@@ -185,11 +185,11 @@ fn holds_children(bytes: &[u8], n: usize) -> bool
 {
     let own = box_of(bytes, n);
     let left = box_of(bytes, nodes::left_of(bytes, n));
-    if !grid::holds_box(own, left) {
+    if !boxes::holds_box(own, left) {
         return false;
     }
     let right = box_of(bytes, nodes::right_of(bytes, n));
-    grid::holds_box(own, right)
+    boxes::holds_box(own, right)
 }
 
 // Whether a node's box is too small.

@@ -1,13 +1,13 @@
 -- A calculus for signed code: small signed numbers go through the machine's bits unchanged. Assumes nothing.
 use mathlib.Core.Path.{_≡_, refl, sym, ap, subst, _∙_}
 use Prim.Native.Nat.{ℕ, zero, suc, _+_, _-_, _*_, _^_, _≤_, _<_}
-use native.Mathlib.Nat.{lt-of-le-of-lt, le-trans, le-refl, le-of-eq, add-comm, add-le-add, mul-le-mul}
+use native.Mathlib.Nat.{lt-trans, lt-of-le-of-lt, le-trans, le-refl, le-of-eq, add-comm, add-le-add, mul-le-mul}
 use native.Mathlib.Omega.{arith}
 use lib.IntN.{ℤ, pos, negsuc, negℤ, natAbs, _+ℤ_, _-ℤ_, _*ℤ_, subℕ, +ℤ-idl}
 use lib.Signed.{leZ, ltZ}
 use mathlib.Core.Bool.{Bool, true, false, cond, _&&_}
-use lib.Dec.{T, leb, ltb, ltb→lt, leb·zero, leb·suc-zero, leb·suc-suc}
-use mir.Syntax.{w64}
+use lib.Dec.{T, lit<, leb, ltb, ltb→lt, leb·zero, leb·suc-zero, leb·suc-suc}
+use mir.Syntax.{w32, w64}
 use mir.Val.{SFits, toZ, ofZ}
 use mir.ValLaws.{toZ-pos, toZ-ofZ}
 use Rattle.wire.specs.Signed.{Within}
@@ -23,6 +23,10 @@ fits-of (negsuc n) h = record { sfits = pred-lt n h }
   where
     pred-lt : (n : ℕ) → suc n < 2 ^ 63 → n < 2 ^ 63
     pred-lt n h = omega arith
+
+-- what fits in 32 bits fits in 64
+pub wider : (z : ℤ) → SFits w32 z → SFits w64 z
+wider z h = record { sfits = lt-trans (h .sfits) (lit< tt) }
 
 pub back : (z : ℤ) → natAbs z < 2 ^ 63 → toZ w64 (ofZ w64 z) ≡ z
 back z h = toZ-ofZ w64 z (fits-of z h)

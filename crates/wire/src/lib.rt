@@ -1,4 +1,4 @@
-// Numbers of four bytes, little-endian, in a caller's bytes: read and put.
+// Numbers of four bytes, little-endian, in a caller's bytes: read and put; and numbers in a wider type.
 ghost use mathlib.Core.Path.{_≡_};
 ghost use Prim.Native.Nat.{_+_, _≤_, _<_};
 ghost use lib.ListN.{length};
@@ -9,6 +9,13 @@ pub fn wide(byte: u8) -> u32
     ensures { λ r. ⌜ (r ≡ byte) × (r < 256) ⌝ }
 {
     byte as u32
+}
+
+// A number of 32 bits as one of 64.
+pub fn widened(z: i32) -> i64
+    ensures { λ r. ⌜ r ≡ z ⌝ }
+{
+    z as i64
 }
 
 fn four_bytes(bytes: &[u8], at: usize) -> u32

@@ -19,7 +19,7 @@ use Rattle.verdict.proofs.Verdict.{then-next, then-stop}
 use Rattle.wire.specs.Bytes.{u32At, u32Bytes, put}
 use Rattle.wire.specs.Words.{wordsAt, bytesOf, joined}
 use Rattle.grid.specs.Grid.{finite, onGrid, size64, scaled, gridFloat, mayNudge, nudgeBits}
-use Rattle.grid.specs.Box.{between, noneOver, holdsPoint, holdsBox, holdsXY, boxOfBits}
+use Rattle.boxes.specs.Box.{between, noneOver, holdsPoint, holdsBox, holdsXY, boxOfBits}
 use Rattle.triangle.specs.Triangle.{inTriangle, sides, allLeft, allRight, cross}
 use Rattle.tables.specs.Tables.{rule5, rule6, outsideAt, outside, spanOf, shares, sharesEarlier}
 use Rattle.tables.specs.Header.{wrongLength, headerVerdict, rules2to6, startsWrong, differs, limit, rule1, rule2, rule3, rule4}
@@ -39,9 +39,9 @@ use Rattle.floor.specs.Reader.{rule20, readerVerdict, walkableFaces, answerOf, 
 use Rattle.floor.specs.Rewrite.{fixedForm, rewriteVerdict, rewriteAnswer, rewriteMemory}
 use Rattle.floor.proofs.Order.{by-groups}
 use Rattle.record.specs.Record.{recordBytes}
-use Rattle.record.specs.Allowed.{permitted}
-use Rattle.record.specs.Kind.{lay}
-use Rattle.record.specs.Area.{areaCount, areaField}
+use Rattle.laying.specs.Allowed.{permitted}
+use Rattle.laying.specs.Kind.{lay}
+use Rattle.laying.specs.Area.{areaCount, areaField}
 use Rattle.journal.specs.Step.{badSession, rule28, commonVerdict, unless, full, rule21, editRules, editVerdict, editStep}
 use Rattle.journal.specs.Calls.{step, run}
 use Rattle.query.specs.Rules.{rule29, rule30, offGrid, queryVerdict}

@@ -16,7 +16,7 @@ use Rattle.floor.specs.Reader.{readerAnswer}
 use Rattle.floor.specs.Rewrite.{rewriteAnswer, rewriteMemory}
 use Rattle.floor.specs.declared.Floor.{Floor}
 use Rattle.query.specs.Points.{pointAnswer}
-use Rattle.record.specs.Area.{areaFloor}
+use Rattle.laying.specs.Area.{areaFloor}
 use Rattle.journal.specs.Step.{Outcome, lent}
 use Rattle.journal.specs.Calls.{Call, paint, step, run}
 use Rattle.query.specs.declared.Point.{Point}

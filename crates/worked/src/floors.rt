@@ -87,13 +87,18 @@ fn links(what: &[u8], t0: u32, t1: u32, t2: u32, rooms: &[u8]) {
     made(what, &b, rooms);
 }
 
-pub(crate) fn all() {
+// Edges that lead to rooms, past them, and nowhere.
+fn leads() {
     let two = b"beginlayout\nroomcount 2\nHall 0 0 0\nCourt 0 0 0\ndonelayout\n";
     let none = b"beginlayout\nroomcount 0\ndonelayout\n";
     links(b"edges that lead to both rooms", 1, NONE, 0, two);
     links(b"edge that leads past the rooms", 1, 2, 63, two);
     links(b"edges that lead nowhere", NONE, NONE, NONE, none);
     links(b"edge that leads on, no room", NONE, NONE, 0, none);
+}
+
+// The floor is asked before the text, and the text before the edges.
+fn in_order() {
     links(
         b"text refused before the edges",
         63,
@@ -102,8 +107,19 @@ pub(crate) fn all() {
         b"beginlayout\nroomcount 0\n",
     );
     links(b"floor refused before the text", 63, 63, 64, b"");
+}
+
+// No floor, with the work memory that a call needs and with a byte less.
+fn no_floor() {
+    let two = b"beginlayout\nroomcount 0\ndonelayout\n";
     let mut work = [0u8; 16384];
     linked(b"no floor", b"", two, &mut work);
     let mut few = [0u8; 16383];
     linked(b"work memory too short", b"", two, &mut few);
+}
+
+pub(crate) fn all() {
+    leads();
+    in_order();
+    no_floor();
 }

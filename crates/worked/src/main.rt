@@ -38,7 +38,7 @@ fn said(yes: bool) {
 // What rules 1 to 6 answer of the first n bytes.
 fn first(bytes: &[u8], n: usize) {
     if n <= bytes.len() {
-        told(tables::header_verdict(&bytes[..n]));
+        told(header::header_verdict(&bytes[..n]));
     }
 }
 

@@ -5,8 +5,8 @@ use super::end;
 use super::gap;
 use super::number;
 use libc::STDOUT_FILENO;
+use names::same_word;
 use text::line;
-use text::same_word;
 use verdict::Form;
 ghost use Prim.Native.Nat.{_≤_, _<_};
 ghost use lib.ListN.{length};
@@ -215,6 +215,27 @@ fn lent<'a>(
     }
 }
 
+// A case whose call stands at a line, with its two texts.
+fn named<'a>(s: &[u8], at: usize, first: &'a [u8], second: &'a [u8])
+    requires { ⌜ at < 8000 ⌝ }
+{
+    let mut name = [0u8; 64];
+    let mut out = [0u8; 512];
+    let l = spelled(line(s, at + 5), &mut name);
+    let room = numeral(line(s, at + 4));
+    let long = numeral(line(s, at + 6)) as usize;
+    lent(
+        line(s, at),
+        line(s, at + 1),
+        first,
+        second,
+        room,
+        start(&name, l),
+        &mut out,
+        long,
+    );
+}
+
 // Case k.
 fn run(s: &[u8], k: usize)
     requires { ⌜ k < 1000 ⌝ }
@@ -222,23 +243,9 @@ fn run(s: &[u8], k: usize)
     let at = 8 * k;
     let mut first = [0u8; 512];
     let mut second = [0u8; 512];
-    let mut name = [0u8; 64];
-    let mut out = [0u8; 512];
     let n = spelled(line(s, at + 2), &mut first);
     let m = spelled(line(s, at + 3), &mut second);
-    let l = spelled(line(s, at + 5), &mut name);
-    let room = numeral(line(s, at + 4));
-    let long = numeral(line(s, at + 6)) as usize;
-    lent(
-        line(s, at),
-        line(s, at + 1),
-        start(&first, n),
-        start(&second, m),
-        room,
-        start(&name, l),
-        &mut out,
-        long,
-    );
+    named(s, at, start(&first, n), start(&second, m));
 }
 
 // All cases, up to one without a call.
@@ -253,17 +260,28 @@ pub(crate) fn all(s: &[u8]) {
     }
 }
 
-// Texts of 65,537 and 65,536 refused bytes: 31 stands before 32.
-pub(crate) fn longest() {
+// Layouts of 65,537 and 65,536 refused bytes.
+fn longest_layouts(over: &[u8], most: &[u8]) {
+    let mut out = [0u8; 512];
+    let a = layoutform::layout_rewrite(over, &mut out);
+    form(b"LYT", b"65,537 refused bytes", a, &out);
+    let b = layoutform::layout_rewrite(most, &mut out);
+    form(b"LYT", b"65,536 refused bytes", b, &out);
+}
+
+// Visibility of so many, and a layout that is refused before it.
+fn longest_sights(over: &[u8], most: &[u8]) {
     let mut out = [0u8; 512];
     let rooms = b"beginlayout\nroomcount 3\nHall 0 0 0\nCourt 10 0 0\nWell 0 10 0\ndonelayout\n";
+    sight(b"layout refused first", b"beginlayout\n\n", over, &mut out);
+    sight(b"65,537 refused bytes", rooms, over, &mut out);
+    sight(b"65,536 refused bytes", rooms, most, &mut out);
+}
+
+// Texts of 65,537 and 65,536 refused bytes: 31 stands before 32.
+pub(crate) fn longest() {
     let over = [35u8; 65537];
     let most = [35u8; 65536];
-    let a = layoutform::layout_rewrite(&over, &mut out);
-    form(b"LYT", b"65,537 refused bytes", a, &out);
-    let b = layoutform::layout_rewrite(&most, &mut out);
-    form(b"LYT", b"65,536 refused bytes", b, &out);
-    sight(b"layout refused first", b"beginlayout\n\n", &over, &mut out);
-    sight(b"65,537 refused bytes", rooms, &over, &mut out);
-    sight(b"65,536 refused bytes", rooms, &most, &mut out);
+    longest_layouts(&over, &most);
+    longest_sights(&over, &most);
 }

@@ -1,7 +1,7 @@
 -- `caption::caption_at` meets its contract. Assumes nothing.
 use mathlib.Core.Path.{_≡_, ap}
 use lib.ListN.{length}
-use Rattle.text.proofs.NameLaws.{name-long}
+use Rattle.names.proofs.NameLaws.{name-long}
 use Rattle.rooms.proofs.RoomLaws.{rooms-have-names}
 use Rattle.caption.proofs.CaptionLaws.{has-it, has-none, its-name}
 use Rattle.layout.proofs.HeldLaws.{named-asked}

@@ -5,7 +5,7 @@ use native.Mathlib.Omega.{arith}
 use borrow.Author.Needs.{needs}
 use Prim.Native.Nat.{_+_, _-_, _≤_}
 use lib.ListN.{length, drop}
-use Rattle.text.specs.Class.{isEnd, isGap}
+use Rattle.letters.specs.Class.{isEnd, isGap}
 use Rattle.text.specs.Scan.{run, lines, lineAt}
 use Rattle.text.proofs.SplitLaws.{piece-within}
 use Rattle.caption.specs.Caption.{entersAs, namePlace}

@@ -1,5 +1,5 @@
 -- `engine::wp_link` meets its contract. Assumes nothing.
-use Rattle.record.specs.Area.{areaFloor}
+use Rattle.laying.specs.Area.{areaFloor}
 use Rattle.journal.specs.Wish.{linkWish}
 use Rattle.journal.specs.Step.{lent, editStep}
 use borrow.Author.Needs.{needs}

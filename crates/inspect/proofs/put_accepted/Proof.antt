@@ -1,7 +1,7 @@
 -- Four named numbers and the line feed. Assumes nothing.
 use borrow.Author.Needs.{needs}
 use native.Mathlib.Omega.{arith}
-use Rattle.text.proofs.WriteLaws.{wrote-then}
+use Rattle.printer.proofs.WriteLaws.{wrote-then}
 use Rattle.inspect.specs.Line.{acceptedLine}
 use Rattle.inspect.proofs.put_accepted.Statement.{statement}
 use Rattle.inspect.proofs.put_accepted.Tie as tie

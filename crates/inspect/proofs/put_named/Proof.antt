@@ -1,7 +1,7 @@
 -- The word, then the number. Assumes nothing.
 use borrow.Author.Needs.{needs}
 use native.Mathlib.Omega.{arith}
-use Rattle.text.proofs.WriteLaws.{wrote-then}
+use Rattle.printer.proofs.WriteLaws.{wrote-then}
 use Rattle.inspect.proofs.put_named.Statement.{statement}
 use Rattle.inspect.proofs.put_named.Tie as tie
 

@@ -1,7 +1,7 @@
 -- The words and the line feed. Assumes nothing.
 use borrow.Author.Needs.{needs}
 use native.Mathlib.Omega.{arith}
-use Rattle.text.proofs.WriteLaws.{wrote-then}
+use Rattle.printer.proofs.WriteLaws.{wrote-then}
 use Rattle.inspect.proofs.put_too_long.Statement.{statement}
 use Rattle.inspect.proofs.put_too_long.Tie as tie
 

@@ -10,7 +10,7 @@ use Rattle.verdict.specs.Verdict.{rule, _then_}
 use Rattle.verdict.specs.declared.Answer.{Answer}
 use Rattle.verdict.proofs.Verdict.{passed, unbroken}
 use Rattle.record.specs.Record.{size}
-use Rattle.record.specs.Area.{areaFloor}
+use Rattle.laying.specs.Area.{areaFloor}
 use Rattle.journal.specs.Wish.{asked}
 use Rattle.journal.specs.Step.{lent, full, editVerdict, recordOf, edited, editStep}
 use Rattle.journal.proofs.Steps.{full-free, open-met, OpenMet, open-next, stops, does}

@@ -5,8 +5,8 @@ use mir.Syntax.{w32}
 use mir.ValLaws.{toZ-ofZ}
 use denote.Ref.{now}
 use Rattle.verdict.specs.declared.Answer.{Answer}
-use Rattle.record.specs.Allowed.{mayLink, transitionWord}
-use Rattle.record.specs.Area.{areaFloor}
+use Rattle.laying.specs.Allowed.{mayLink, transitionWord}
+use Rattle.laying.specs.Area.{areaFloor}
 use Rattle.journal.specs.Wish.{linkWish}
 use Rattle.journal.specs.Step.{lent, commonVerdict, openVerdict}
 use Rattle.journal.proofs.Steps.{edit-stops, edit-as}

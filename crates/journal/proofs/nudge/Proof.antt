@@ -9,8 +9,8 @@ use Rattle.verdict.specs.declared.Answer.{Answer}
 use Rattle.wire.specs.Bytes.{u32At}
 use Rattle.grid.specs.Answers.{nudgedAt}
 use Rattle.grid.proofs.Answers.{ok-is, bits-moved}
-use Rattle.record.specs.Area.{areaField, areaFloor}
-use Rattle.record.proofs.Allowed.{wide}
+use Rattle.laying.specs.Area.{areaField, areaFloor}
+use Rattle.wire.proofs.Signed.{wider}
 use Rattle.journal.specs.Wish.{nudgeWish}
 use Rattle.journal.specs.Step.{lent, commonVerdict, openVerdict}
 use Rattle.journal.proofs.Steps.{open-met, edit-stops, edit-as}
@@ -39,7 +39,7 @@ step-is : (c : tie.After-widened) → toZ w64 (ofZ w64 (c .widened .result)) ≡
 step-is c =
     let s = c .before .before .before .before .before .before .before in
     let e = c .widened .ensures ∙ toZ-ofZ w32 (s .args .step) (s .fits .step) in
-    rw e (toZ-ofZ w64 (s .args .step) (wide (s .args .step) (s .fits .step)))
+    rw e (toZ-ofZ w64 (s .args .step) (wider (s .args .step) (s .fits .step)))
 
 moved-is : (c : tie.After-nudge) → let a = c .before .before .before .before .before .before .before .before .before .before .args in c .nudge .result ≡ nudgedAt (u32At (now (a .floor)) (areaField (now (a .floor)) 3 (a .place))) (a .step)
 moved-is c = c .nudge .ensures ∙ ap₂ nudgedAt (c .before .word-at .ensures) (step-is (c .before .before .before))

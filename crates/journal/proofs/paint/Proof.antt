@@ -4,8 +4,8 @@ use mathlib.Core.Path.{_≡_, refl, sym, ap, _∙_}
 use Prim.Native.Nat.{ℕ}
 use denote.Ref.{now}
 use Rattle.verdict.specs.declared.Answer.{Answer}
-use Rattle.record.specs.Allowed.{permitted}
-use Rattle.record.specs.Area.{areaFloor}
+use Rattle.laying.specs.Allowed.{permitted}
+use Rattle.laying.specs.Area.{areaFloor}
 use Rattle.journal.specs.Wish.{paintWish}
 use Rattle.journal.specs.Step.{lent, commonVerdict, openVerdict}
 use Rattle.journal.proofs.Steps.{open-met, edit-stops, edit-as}

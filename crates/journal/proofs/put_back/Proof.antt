@@ -4,7 +4,7 @@ use native.Mathlib.Omega.{arith}
 use mathlib.Core.Path.{_≡_, sym, ap, _∙_}
 use denote.Ref.{now}
 use Rattle.verdict.specs.declared.Answer.{Answer}
-use Rattle.record.specs.Area.{areaFloor}
+use Rattle.laying.specs.Area.{areaFloor}
 use Rattle.journal.specs.Step.{lent, commonVerdict}
 use Rattle.journal.proofs.Steps.{CommonMet, common-met, back-stops, back-done, back-unfit}
 use Rattle.journal.proofs.put_back.Statement.{statement}

@@ -7,7 +7,7 @@ use mathlib.Core.Path.{_≡_, sym, ap, _∙_}
 use denote.Ref.{now}
 use borrow.Author.Tests.{eq-eqb, ne-eqb}
 use Rattle.verdict.specs.declared.Answer.{Answer}
-use Rattle.record.specs.Area.{areaFloor}
+use Rattle.laying.specs.Area.{areaFloor}
 use Rattle.journal.specs.Step.{lent, commonVerdict, redoVerdict, redoStep}
 use Rattle.journal.proofs.Steps.{CommonMet, common-met, turn-stops, turn-none, turn-done, turn-unfit}
 use Rattle.journal.proofs.redo.Statement.{statement}

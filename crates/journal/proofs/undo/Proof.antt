@@ -8,7 +8,7 @@ use denote.Ref.{now}
 use borrow.Author.Tests.{eq-eqb, ne-eqb}
 use Rattle.verdict.specs.declared.Answer.{Answer}
 use Rattle.record.specs.Record.{size}
-use Rattle.record.specs.Area.{areaFloor}
+use Rattle.laying.specs.Area.{areaFloor}
 use Rattle.journal.specs.Step.{lent, commonVerdict, unwindsTo, unwind, undoVerdict, undoStep}
 use Rattle.journal.proofs.Steps.{CommonMet, common-met, turn-stops, turn-none, turn-done, turn-unfit}
 use Rattle.journal.proofs.OneBack.{part-all, one-back, none-back}

@@ -7,9 +7,9 @@ use lib.ListN.{length}
 use borrow.Author.Tests.{not-true, not-false}
 use Rattle.tables.specs.Header.{RightHeader}
 use Rattle.record.specs.Record.{size, flip, recordAt}
-use Rattle.record.specs.Area.{areaFloor}
-use Rattle.record.proofs.Laying.{fits-inside}
-use Rattle.record.proofs.Area.{lay-right}
+use Rattle.laying.specs.Area.{areaFloor}
+use Rattle.laying.proofs.Laying.{fits-inside}
+use Rattle.laying.proofs.Area.{lay-right}
 use Rattle.journal.specs.Step.{unwind}
 use Rattle.journal.proofs.Refused.{unwind-turn, unwind-halt, unwind-end}
 use Rattle.journal.proofs.unwind_from.Statement.{statement}

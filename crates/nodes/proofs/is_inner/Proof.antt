@@ -1,7 +1,7 @@
 -- An inner node: each way out knows which test failed, or that all passed. Assumes nothing.
 use borrow.Author.Needs.{needs}
 use native.Mathlib.Omega.{arith}
-use mathlib.Core.Path.{_≡_, sym, ap, _∙_}
+use mathlib.Core.Path.{_≡_, refl, sym, ap, _∙_}
 use denote.Ref.{now}
 use borrow.Author.Tests.{lt-ltb, le-ltb, eq-eqb, ne-eqb, not-true, not-false}
 use Rattle.verdict.proofs.Bools.{and-no}
@@ -45,7 +45,7 @@ returns-4 c =
       lt-ltb (leftOf p n) (p .nodes) (omega arith),
       c .right-of .ensures,
       c .before .before .before .node-count .ensures .0,
-    )
+    ) refl
 
 pub is-inner-spec : {M : Type 1} → statement M
 is-inner-spec =

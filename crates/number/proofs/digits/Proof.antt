@@ -2,7 +2,7 @@
 use mathlib.Core.Path.{_≡_, refl, sym, _∙_}
 use Prim.Native.Nat.{_+_, _-_}
 use lib.ListN.{length}
-use Rattle.text.specs.Class.{isDigit}
+use Rattle.letters.specs.Class.{isDigit}
 use Rattle.number.specs.Number.{count}
 use Rattle.text.proofs.RunLaws.{run-on, run-off, run-end}
 use borrow.Author.Needs.{needs}

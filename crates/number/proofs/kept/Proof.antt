@@ -1,12 +1,13 @@
 -- `number::kept` meets its contract. Assumes nothing.
 use borrow.Author.Tests.{eq-eqb, ne-eqb}
+use mathlib.Core.Path.{refl}
 use Rattle.number.specs.Number.{some}
 use Rattle.number.proofs.kept.Statement.{statement}
 use Rattle.number.proofs.kept.Tie as tie
 
 returns : tie.Need-returns
 unfolding some
-returns c = simp (eq-eqb _ _ (c .if1 .taken))
+returns c = simp (eq-eqb _ _ (c .if1 .taken)) refl
 
 returns-2 : tie.Need-returns-2
 unfolding some

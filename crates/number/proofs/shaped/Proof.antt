@@ -1,7 +1,7 @@
 -- `number::shaped` meets its contract. Assumes nothing.
 use mathlib.Core.Path.{_≡_, sym, _∙_}
 use mathlib.Core.Bool.{true}
-use Rattle.text.specs.Class.{within}
+use Rattle.letters.specs.Class.{within}
 use Rattle.number.proofs.NumberLaws.{right-end, right-other, right-behind, right-not}
 use borrow.Author.Needs.{needs}
 use Rattle.number.proofs.shaped.Statement.{statement}

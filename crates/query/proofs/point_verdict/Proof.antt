@@ -1,6 +1,7 @@
 -- 29, then 30. Assumes nothing.
 use borrow.Author.Needs.{needs}
 use native.Mathlib.Omega.{arith}
+use mathlib.Core.Path.{refl}
 use mir.Syntax.{w64}
 use mir.ValLaws.{toZ-ofZ}
 use Rattle.verdict.specs.Verdict.{ruleOfEach}
@@ -25,6 +26,7 @@ returns c =
       c .before .first-off-grid .ensures,
       c .before .before .count-of .ensures .0,
     )
+    refl
 
 pub point-verdict-spec : {M : Type 1} → statement M
 point-verdict-spec = tie.close (tie.spec (search needs) (search needs) (search needs) (search needs) cast-then-rule (search needs) returns)

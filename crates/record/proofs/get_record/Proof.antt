@@ -1,5 +1,6 @@
 -- Five readings. Assumes nothing.
 use native.Mathlib.Omega.{arith}
+use mathlib.Core.Path.{refl}
 use Rattle.record.specs.Record.{recordAt}
 use Rattle.record.proofs.get_record.Statement.{statement}
 use Rattle.record.proofs.get_record.Tie as tie
@@ -13,7 +14,7 @@ returns c =
       c .before .before .u32-at .ensures,
       c .before .u32-at2 .ensures,
       c .u32-at3 .ensures,
-    )
+    ) refl
 
 pub get-record-spec : {M : Type 1} → statement M
 get-record-spec =

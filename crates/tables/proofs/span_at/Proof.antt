@@ -1,5 +1,10 @@
 -- Offset, and offset with count times size. Assumes nothing.
 use native.Mathlib.Omega.{arith}
+use mathlib.Core.Path.{_≡_, refl, sym}
+use mathlib.Core.List.{List}
+use Prim.Native.Nat.{ℕ, _+_, _*_}
+use Rattle.wire.specs.Bytes.{u32At}
+use Rattle.tables.specs.declared.Table.{Table}
 use Rattle.tables.specs.Tables.{spanOf}
 use Rattle.tables.proofs.Floor.{product-fits}
 use borrow.Author.Needs.{needs}
@@ -18,9 +23,13 @@ mul-t8 c = omega (arith, product-fits (c .u32-at2 .result) _ (omega arith) (c .b
 add-t9 : tie.Need-add-t9
 add-t9 c = omega (arith, product-fits (c .u32-at2 .result) _ (omega arith) (c .before .before .table-at .ensures .1 .size-small))
 
-returns : tie.Need-returns
+-- the span, by what the code read
+span-by : (b : List ℕ) (t u : Table) (s n : ℕ) → t ≡ u → s ≡ u32At b (t .offset) → n ≡ u32At b (t .count) → spanOf b u ≡ record { start = s; stop = s + n * t .size }
 unfolding spanOf
-returns c = rw (← c .before .before .table-at .ensures .0, ← c .before .u32-at .ensures, ← c .u32-at2 .ensures)
+span-by b t u s n e f g = rw (← e, ← f, ← g) refl
+
+returns : tie.Need-returns
+returns c = sym (span-by _ _ _ _ _ (c .before .before .table-at .ensures .0) (c .before .u32-at .ensures) (c .u32-at2 .ensures))
 
 pub span-at-spec : {M : Type 1} → statement M
 span-at-spec =

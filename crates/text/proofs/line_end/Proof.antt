@@ -3,7 +3,7 @@ use mathlib.Core.Path.{_≡_, refl, sym, ap, _∙_}
 use mathlib.Core.Bool.{not}
 use Prim.Native.Nat.{_+_, _-_}
 use lib.ListN.{length, drop}
-use Rattle.text.specs.Class.{isEnd}
+use Rattle.letters.specs.Class.{isEnd}
 use Rattle.text.specs.Scan.{run, apart}
 use Rattle.text.proofs.RunLaws.{run-on, run-off, run-end}
 use borrow.Author.Needs.{needs}

@@ -2,7 +2,7 @@
 use mathlib.Core.Path.{_≡_, refl, sym, _∙_}
 use Prim.Native.Nat.{_+_, _-_}
 use lib.ListN.{length, drop}
-use Rattle.text.specs.Class.{isGap}
+use Rattle.letters.specs.Class.{isGap}
 use Rattle.text.specs.Scan.{run}
 use Rattle.text.proofs.RunLaws.{run-on, run-off, run-end}
 use borrow.Author.Needs.{needs}

@@ -3,7 +3,7 @@ use borrow.Author.Needs.{needs}
 use mathlib.Core.Path.{_≡_, _∙_}
 use borrow.Author.Tests.{not-true, not-false}
 use denote.Ref.{now}
-use Rattle.grid.specs.Box.{holdsBox}
+use Rattle.boxes.specs.Box.{holdsBox}
 use Rattle.tables.specs.Parts.{partsOf}
 use Rattle.nodes.specs.Nodes.{leftOf, rightOf}
 use Rattle.tree.specs.Boxes.{boxOf}

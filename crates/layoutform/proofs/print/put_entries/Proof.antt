@@ -3,10 +3,10 @@ use native.Mathlib.Omega.{arith}
 use Prim.Native.Nat.{_+_, _*_, _-_, _≤_}
 use mathlib.Core.List.{map}
 use lib.ListN.{take}
-use Rattle.text.specs.Name.{lowered}
-use Rattle.text.specs.Write.{Wrote}
+use Rattle.letters.specs.Case.{lowered}
+use Rattle.printer.specs.Write.{Wrote}
 use Rattle.text.specs.Written.{written}
-use Rattle.text.proofs.WriteLaws.{wrote-long}
+use Rattle.printer.proofs.WriteLaws.{wrote-long}
 use Rattle.layoutform.specs.Form.{entryOf, entryLine}
 use Rattle.layoutform.specs.Rewrite.{renamedAt}
 use Rattle.layout.specs.Starts.{held}

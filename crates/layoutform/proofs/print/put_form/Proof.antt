@@ -5,7 +5,7 @@ use Prim.Native.Nat.{_+_, _≤_}
 use borrow.Author.Needs.{needs}
 use lib.ListN.{length}
 use Rattle.text.specs.Written.{written, spaced, after}
-use Rattle.text.proofs.WriteLaws.{wrote-long}
+use Rattle.printer.proofs.WriteLaws.{wrote-long}
 use Rattle.layout.specs.Grammar.{beginlayout, roomcount, trackcount, obstaclecount, doorhookcount, donelayout}
 use Rattle.layoutform.proofs.WholeLaws.{head-end, kept-rooms, kept-tracks, kept-obstacles, form-wrote}
 use Rattle.layoutform.proofs.print.put_form.Statement.{statement}

@@ -1,7 +1,7 @@
 -- `layoutform::print::put_head` meets its contract. Assumes nothing.
 use native.Mathlib.Omega.{arith}
 use Rattle.number.proofs.DigitLaws.{plain-short}
-use Rattle.text.proofs.WriteLaws.{wrote-is, wrote-long, wrote-then}
+use Rattle.printer.proofs.WriteLaws.{wrote-is, wrote-long, wrote-then}
 use Rattle.layoutform.proofs.PrintLaws.{head-bytes}
 use Rattle.layoutform.proofs.print.put_head.Statement.{statement}
 use Rattle.layoutform.proofs.print.put_head.Tie as tie

@@ -2,9 +2,9 @@
 use mathlib.Core.List.{_++_}
 use native.Mathlib.Omega.{arith}
 use denote.Ref.{now}
-use Rattle.text.specs.Write.{Wrote}
+use Rattle.printer.specs.Write.{Wrote}
 use Rattle.layoutform.specs.Rewrite.{renamedForm}
-use Rattle.text.proofs.FitLaws.{too-short, long-enough}
+use Rattle.printer.proofs.FitLaws.{too-short, long-enough}
 use borrow.Author.Needs.{needs}
 use Rattle.layoutform.proofs.print.write_form.Statement.{statement}
 use Rattle.layoutform.proofs.print.write_form.Tie as tie

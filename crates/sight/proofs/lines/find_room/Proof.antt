@@ -6,7 +6,7 @@ use Prim.Native.Nat.{_-_, _≤_}
 use mathlib.Core.Bool.{true, false}
 use Rattle.verdict.specs.Lowest.{lowest}
 use Rattle.verdict.proofs.Lowest.{lowest-none, lowest-more}
-use Rattle.text.specs.Name.{isName}
+use Rattle.names.specs.Name.{isName}
 use Rattle.sight.specs.Code.{keptNames}
 use Rattle.sight.proofs.FindLaws.{hasName, kept-good, find-turn, find-hit, find-none}
 use Rattle.sight.proofs.lines.find_room.Statement.{statement}

@@ -1,6 +1,6 @@
 -- `sight::lines::observer_fault` meets its contract. Assumes nothing.
 use mathlib.Core.Path.{sym, ap, _∙_}
-use Rattle.text.specs.Name.{isName}
+use Rattle.names.specs.Name.{isName}
 use Rattle.number.specs.Count.{isCount}
 use Rattle.sight.proofs.FaultLaws.{observer-33, observer-34, observer-36, observer-room}
 use borrow.Author.Needs.{needs}

@@ -1,6 +1,6 @@
 -- `sight::lines::seen_fault` meets its contract. Assumes nothing.
 use mathlib.Core.Path.{sym, ap, _∙_}
-use Rattle.text.specs.Name.{isName}
+use Rattle.names.specs.Name.{isName}
 use Rattle.sight.proofs.FaultLaws.{seen-33, seen-34, seen-room}
 use borrow.Author.Needs.{needs}
 use Rattle.sight.proofs.lines.seen_fault.Statement.{statement}

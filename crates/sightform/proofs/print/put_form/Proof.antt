@@ -3,8 +3,8 @@ use mathlib.Core.Path.{refl}
 use native.Mathlib.Omega.{arith}
 use borrow.Author.Needs.{needs}
 use Prim.Native.Nat.{_*_, _-_, _≤_}
-use Rattle.text.specs.Write.{Wrote}
-use Rattle.text.proofs.WriteLaws.{wrote-long}
+use Rattle.printer.specs.Write.{Wrote}
+use Rattle.printer.proofs.WriteLaws.{wrote-long}
 use Rattle.sightform.specs.Form.{linesTo, ended}
 use Rattle.sightform.specs.Code.{printedNames}
 use Rattle.sightform.proofs.PrintLaws.{rooms-start, rooms-more, rooms-done}

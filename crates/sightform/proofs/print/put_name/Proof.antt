@@ -2,7 +2,7 @@
 use mathlib.Core.Path.{ap}
 use native.Mathlib.Omega.{arith}
 use lib.ListN.{length}
-use Rattle.text.proofs.WriteLaws.{wrote-is}
+use Rattle.printer.proofs.WriteLaws.{wrote-is}
 use Rattle.sightform.proofs.PrintLaws.{shown-typed, shown-own}
 use borrow.Author.Needs.{needs}
 use Rattle.sightform.proofs.print.put_name.Statement.{statement}

@@ -4,8 +4,8 @@ use native.Mathlib.Omega.{arith}
 use borrow.Author.Needs.{needs}
 use Prim.Native.Nat.{_+_, _*_, _-_, _≤_}
 use mathlib.Core.List.{map}
-use Rattle.text.specs.Write.{Wrote}
-use Rattle.text.proofs.WriteLaws.{wrote-long}
+use Rattle.printer.specs.Write.{Wrote}
+use Rattle.printer.proofs.WriteLaws.{wrote-long}
 use Rattle.sightform.specs.Form.{seenTo, seenLine, ended}
 use Rattle.sightform.specs.Code.{printedNames}
 use Rattle.sight.proofs.FindLaws.{kept-short}

@@ -1,0 +1,3 @@
+pub mod ClassLaws
+pub mod CaseLaws
+pub mod Tests
