@@ -315,6 +315,23 @@ fn detach_ring(model: &mut Model, random: &mut Random, inner: &[usize]) {
     }
 }
 
+/// The float beside a finite one, the next above it or below. (The standard library has it only since Rust 1.86, and the
+/// compiler that an Arm machine gets for this program is older.)
+fn beside(value: f32, above: bool) -> f32 {
+    let bits = value.to_bits();
+    if !value.is_finite() {
+        return value;
+    }
+    if value == 0.0 {
+        return f32::from_bits(if above { 1 } else { 0x8000_0001 });
+    }
+    f32::from_bits(if (value > 0.0) == above {
+        bits + 1
+    } else {
+        bits - 1
+    })
+}
+
 /// Draws a side of a box in: by the least step a float can make, or by more.
 fn small_box(model: &mut Model, random: &mut Random) {
     if model.nodes.is_empty() {
@@ -327,8 +344,7 @@ fn small_box(model: &mut Model, random: &mut Random) {
     let drawn = match random.under(3) {
         0 => value + inwards * 0.015_625,
         1 => value + inwards * 5.0,
-        _ if inwards > 0.0 => value.next_up(),
-        _ => value.next_down(),
+        _ => beside(value, inwards > 0.0),
     };
     if drawn.is_finite() {
         node[side] = drawn.to_bits();
