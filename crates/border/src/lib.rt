@@ -12,9 +12,6 @@ ghost use Rattle.pairs.specs.Halves.{halves, rules15to16, RightPairs};
 ghost use Rattle.border.specs.Loops.{wrongEdge, rule17, wrongTransition, loopStart, after, openAt, openRun, wrongLoop, rule19, rules17to19, EdgesIn};
 ghost use Rattle.border.specs.Memory.{marksOf, wrongBy, unmarked};
 
-// No transition.
-const NONE: u32 = 0xFFFF_FFFF;
-
 // The number of edge entries.
 fn edges_of(bytes: &[u8]) -> usize
     requires { ⌜ RightHeader (now bytes) × (136 ≤ length (now bytes)) ⌝ }
@@ -164,7 +161,7 @@ fn wrong_transition(bytes: &[u8], i: usize) -> bool
     if t <= 63 {
         return false;
     }
-    t != NONE
+    t != wire::NONE
 }
 
 fn first_wrong_transition(bytes: &[u8]) -> usize

@@ -152,11 +152,7 @@ pub fn rewrite(bytes: &[u8], work: &mut [u8], out: &mut [u8]) -> Form
 {
     let found = rewrite_verdict(bytes, work, out);
     if found.number != 0 {
-        return Form {
-            number: found.number,
-            place: found.place,
-            length: 0,
-        };
+        return verdict::refused_form(found.number, found.place);
     }
     let length = fixed::form_length(bytes);
     fixed::write_form(bytes, out);

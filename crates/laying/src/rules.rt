@@ -30,7 +30,7 @@ pub(crate) fn is_linkable(word: u32) -> bool
     if word <= 63 {
         return true;
     }
-    word == 4294967295
+    word == wire::NONE
 }
 
 // 23
@@ -49,7 +49,7 @@ pub fn transition_word(t: i32) -> u32
 {
     if t < 0 {
         let below = -1 - t;
-        return 4294967295 - below as u32;
+        return wire::NONE - below as u32;
     }
     t as u32
 }

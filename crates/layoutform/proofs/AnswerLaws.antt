@@ -6,6 +6,7 @@ use native.Mathlib.Omega.{arith}
 use lib.ListN.{length, length-map}
 use Rattle.verdict.specs.declared.Answer.{Answer}
 use Rattle.verdict.specs.declared.Form.{Form}
+use Rattle.verdict.specs.Output.{noForm}
 use Rattle.verdict.proofs.Verdict.{then-next, then-stop}
 use Rattle.verdict.proofs.Output.{Answers, refused-form, first-refuses, second-refuses, third-decides}
 use Rattle.letters.specs.Case.{lowered}
@@ -27,8 +28,8 @@ use Rattle.layoutform.proofs.RenameLaws.{renamed-past, renamed-good, Na
 module _ (s : List ℕ) (r : Layout) (sized : length (r .starts) ≡ 192) (a : Answered s r) where
   -- ---- rewriting
 
-  pub rewrite-refused : (o text : List ℕ) → (r .number ≡ 0 → ⊥) → Answers (record { number = r .number; place = r .place; length = 0 }) o (rewriteVerdict s (length o)) text o
-  rewrite-refused o text z = refused-form (rewriteVerdict s (length o)) text o _ _ (stop ∙ (verdict-is s r sized a)) z
+  pub rewrite-refused : (o text : List ℕ) → (r .number ≡ 0 → ⊥) → (f : Form) → f ≡ noForm (r .number) (r .place) → Answers f o (rewriteVerdict s (length o)) text o
+  rewrite-refused o text z f e = refused-form (rewriteVerdict s (length o)) text o _ _ (stop ∙ (verdict-is s r sized a)) z f e
     where
       stop : rewriteVerdict s (length o) ≡ layoutVerdict s
       stop = unfold rewriteVerdict in (then-stop (layoutVerdict s) (λ y. z (sym (ap (λ (v : Answer). v .number) (verdict-is s r sized a)) ∙ y)) _)
@@ -51,12 +52,12 @@ module _ (s : List ℕ) (r : Layout) (sized : length (r .starts) ≡ 192) (a : A
   module _ (i : ℕ) (w : Word) where
     -- the name's verdict, once the layout's accepts
     module _ (o : List ℕ) (v : Answer) (ev : v ≡ nameVerdict s i w) where
-      pub rename-refused : (r .number ≡ 0 → ⊥) → Answers (record { number = r .number; place = r .place; length = 0 }) o (renameVerdict s i w (length o)) (renamedForm s i w) o
+      pub rename-refused : (r .number ≡ 0 → ⊥) → (f : Form) → f ≡ noForm (r .number) (r .place) → Answers f o (renameVerdict s i w (length o)) (renamedForm s i w) o
       unfolding renameVerdict
       rename-refused z = first-refuses (layoutVerdict s) _ _ (renamedForm s i w) o _ _ (verdict-is s r sized a) z
 
       module _ (z : r .number ≡ 0) where
-        pub rename-unnamed : (v .number ≡ 0 → ⊥) → Answers (record { number = v .number; place = v .place; length = 0 }) o (renameVerdict s i w (length o)) (renamedForm s i w) o
+        pub rename-unnamed : (v .number ≡ 0 → ⊥) → (f : Form) → f ≡ noForm (v .number) (v .place) → Answers f o (renameVerdict s i w (length o)) (renamedForm s i w) o
         unfolding renameVerdict
         rename-unnamed n = second-refuses (layoutVerdict s) _ _ (renamedForm s i w) o v (verdict-accepts s r sized a z) ev n
 

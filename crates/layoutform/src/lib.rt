@@ -1,5 +1,6 @@
 // Layouts (LYT) in their fixed form, as they are and with another name for a room.
 use verdict::Form;
+use verdict::refused_form;
 ghost use mathlib.Core.Path.{_≡_};
 ghost use lib.ListN.{length};
 ghost use Rattle.verdict.specs.Output.{formAnswer, formMemory};
@@ -15,11 +16,7 @@ pub fn layout_rewrite(text: &[u8], out: &mut [u8]) -> Form
 {
     let r = layout::read(text);
     if r.number != 0 {
-        return Form {
-            number: r.number,
-            place: r.place,
-            length: 0,
-        };
+        return refused_form(r.number, r.place);
     }
     print::write_form(out, text, r, 64, &text[..0])
 }
@@ -31,19 +28,11 @@ pub fn layout_rename(text: &[u8], room: u32, name: &[u8], out: &mut [u8]) -> For
 {
     let r = layout::read(text);
     if r.number != 0 {
-        return Form {
-            number: r.number,
-            place: r.place,
-            length: 0,
-        };
+        return refused_form(r.number, r.place);
     }
     let a = rooms::name_verdict(text, r, room, name);
     if a.number != 0 {
-        return Form {
-            number: a.number,
-            place: a.place,
-            length: 0,
-        };
+        return refused_form(a.number, a.place);
     }
     print::write_form(out, text, r, room as usize, name)
 }

@@ -3,6 +3,7 @@ use layout::Layout;
 use text::line_at;
 use text::word;
 use verdict::Form;
+use verdict::refused_form;
 ghost use mathlib.Core.Path.{_≡_};
 ghost use mathlib.Core.Bool.{cond};
 ghost use mathlib.Core.List.{[], _∷_, map};
@@ -155,11 +156,7 @@ pub(crate) fn write_form(out: &mut [u8], s: &[u8], r: Layout, i: usize, name: &[
 {
     let n = put_form(&mut out[..0], s, r, i, name);
     if out.len() < n {
-        return Form {
-            number: 40,
-            place: 0,
-            length: 0,
-        };
+        return refused_form(40, 0);
     }
     let m = put_form(out, s, r, i, name);
     Form {

@@ -9,16 +9,13 @@ ghost use Rattle.tables.specs.Parts.{partsOf};
 ghost use Rattle.floor.specs.Reader.{readerMemory};
 ghost use Rattle.links.specs.Links.{astray, rule42, linkVerdict};
 
-// -1 as 32 bits.
-const NONE: u32 = 4294967295;
-
 // Whether the transition of edge entry i is not under so many rooms.
 fn is_astray(bytes: &[u8], rooms: u32, i: usize) -> bool
     requires { ⌜ RightHeader (now bytes) × (i < (partsOf (now bytes) .edges)) ⌝ }
     ensures { λ r. ⌜ r ≡ astray (partsOf (now (bytes .entry))) rooms i ⌝ }
 {
     let t = tables::word_of(bytes, 7, i, 1);
-    if t == NONE {
+    if t == wire::NONE {
         return false;
     }
     rooms <= t

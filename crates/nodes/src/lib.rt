@@ -10,7 +10,7 @@ ghost use Rattle.tables.specs.Parts.{partsOf};
 ghost use Rattle.nodes.specs.Nodes.{faceOf, planeOf, leftOf, rightOf, nodesOf, isPlane, isLeaf, isInner, neither, rules11to12};
 
 // No face, no child.
-const NONE: usize = 0xFFFF_FFFF;
+const NONE: usize = wire::NONE as usize;
 
 // How many nodes there are.
 pub fn node_count(bytes: &[u8]) -> usize

@@ -10,9 +10,6 @@ ghost use Rattle.tables.specs.Parts.{partsOf, adjacentTo};
 ghost use Rattle.pairs.specs.Halves.{halves, from, to, runs, repeats, partner, border, pairing, wrongAdjacent, rules15to16, RightPairs};
 ghost use Rattle.pairs.specs.Index.{Ready};
 
-// No partner.
-const NONE: u32 = 0xFFFF_FFFF;
-
 // The number of half-edges of walkable faces.
 pub fn halves_of(bytes: &[u8]) -> usize
     requires { ⌜ RightHeader (now bytes) × (136 ≤ length (now bytes)) ⌝ }
@@ -129,7 +126,7 @@ fn pairing_of(bytes: &[u8], work: &[u8], h: usize) -> u32
     if g < n {
         return g as u32;
     }
-    NONE
+    wire::NONE
 }
 
 // Whether adjacency entry h is wrong.
@@ -180,7 +177,7 @@ pub fn is_border(bytes: &[u8], h: usize) -> bool
     ensures { λ r. ⌜ r ≡ border (partsOf (now (bytes .entry))) h ⌝ }
 {
     if h < halves_of(bytes) {
-        return adjacent_of(bytes, h) == NONE;
+        return adjacent_of(bytes, h) == wire::NONE;
     }
     false
 }

@@ -8,6 +8,7 @@ use lib.Seq.{set-out}
 use Rattle.verdict.specs.declared.Answer.{Answer}
 use Rattle.verdict.specs.declared.Form.{Form}
 use Rattle.verdict.specs.Verdict.{accepted, refused}
+use Rattle.verdict.specs.Output.{noForm}
 use Rattle.verdict.proofs.Verdict.{then-next, then-stop}
 use Rattle.verdict.proofs.Output.{Answers, refused-form, first-refuses, second-refuses, third-decides}
 use Rattle.letters.specs.Case.{lowered}
@@ -22,7 +23,7 @@ use Rattle.sight.specs.Sight.{sightVerdict, rowsOf, sightOf}
 use Rattle.sight.proofs.SightLaws.{few-names, sight-no-layout, sight-proper, rows-good}
 use Rattle.sightform.specs.Form.{sightText}
 use Rattle.sightform.specs.Rewrite.{shownNames, renamedNames, rewrittenSight, renamedSight, sightRewriteVerdict, sightRenameVerdict}
-use Rattle.sightform.specs.Code.{noForm, printedNames}
+use Rattle.sightform.specs.Code.{printedNames}
 
 module _ (layout s : List ℕ) (r : Layout) (sized : length (r .starts) ≡ 192) (a : Answered layout r) where
   -- ---- the names that are printed
@@ -42,12 +43,12 @@ module _ (layout s : List ℕ) (r : Layout) (sized : length (r .starts) ≡ 192)
 
   module _ (o : List ℕ) where
     pub rewrite-unread : (r .number ≡ 0 → ⊥) → (f : Form) → f ≡ noForm (r .number) (r .place) → Answers f o (sightRewriteVerdict layout s (length o)) (rewrittenSight layout s) o
-    unfolding sightRewriteVerdict noForm
-    rewrite-unread z f e = rw e (refused-form _ (rewrittenSight layout s) o _ _ (rw (layout-refuses z) (then-stop (refused (r .number) (r .place)) z _)) z)
+    unfolding sightRewriteVerdict
+    rewrite-unread z f e = refused-form _ (rewrittenSight layout s) o _ _ (rw (layout-refuses z) (then-stop (refused (r .number) (r .place)) z _)) z f e
 
     pub rename-unread : (i : ℕ) (w : Word) → (r .number ≡ 0 → ⊥) → (f : Form) → f ≡ noForm (r .number) (r .place) → Answers f o (sightRenameVerdict layout s i w (length o)) (renamedSight layout s i w) o
-    unfolding sightRenameVerdict noForm
-    rename-unread i w z f e = rw e (first-refuses (sightVerdict layout s) _ _ (renamedSight layout s i w) o _ _ (layout-refuses z) z)
+    unfolding sightRenameVerdict
+    rename-unread i w z f e = first-refuses (sightVerdict layout s) _ _ (renamedSight layout s i w) o _ _ (layout-refuses z) z f e
 
     -- ---- by what was read of the text
 
@@ -67,8 +68,8 @@ module _ (layout s : List ℕ) (r : Layout) (sized : length (r .starts) ≡ 192)
       accepts z = sight-proper layout s .at-0 (ap (λ (x : Answer). x .number) verdict-read ∙ z)
 
       pub rewrite-refused : (v .number ≡ 0 → ⊥) → (f : Form) → f ≡ noForm (v .number) (v .place) → Answers f o (sightRewriteVerdict layout s (length o)) (rewrittenSight layout s) o
-      unfolding sightRewriteVerdict noForm
-      rewrite-refused z f e = rw e (refused-form _ (rewrittenSight layout s) o _ _ (rw verdict-read (then-stop (refused (v .number) (v .place)) z _)) z)
+      unfolding sightRewriteVerdict
+      rewrite-refused z f e = refused-form _ (rewrittenSight layout s) o _ _ (rw verdict-read (then-stop (refused (v .number) (v .place)) z _)) z f e
 
       pub rewrite-by : (w : Word) (f : Form) (new : List ℕ) → v .number ≡ 0 → (let text = sightText (printedNames layout (r .starts) (r .rooms) 64 w) (v .rows) in Answers f new (rule40 text (length o)) text o) → Answers f new (sightRewriteVerdict layout s (length o)) (rewrittenSight layout s) o
       unfolding sightRewriteVerdict rewrittenSight
@@ -78,13 +79,13 @@ module _ (layout s : List ℕ) (r : Layout) (sized : length (r .starts) ≡ 192)
 
       module _ (i : ℕ) (w : Word) where
         pub rename-refused : (v .number ≡ 0 → ⊥) → (f : Form) → f ≡ noForm (v .number) (v .place) → Answers f o (sightRenameVerdict layout s i w (length o)) (renamedSight layout s i w) o
-        unfolding sightRenameVerdict noForm
-        rename-refused z f e = rw e (first-refuses (sightVerdict layout s) _ _ (renamedSight layout s i w) o _ _ verdict-read z)
+        unfolding sightRenameVerdict
+        rename-refused z f e = first-refuses (sightVerdict layout s) _ _ (renamedSight layout s i w) o _ _ verdict-read z f e
 
         module _ (n : Answer) (en : n ≡ nameVerdict layout i w) (z : v .number ≡ 0) where
           pub rename-unnamed : (n .number ≡ 0 → ⊥) → (f : Form) → f ≡ noForm (n .number) (n .place) → Answers f o (sightRenameVerdict layout s i w (length o)) (renamedSight layout s i w) o
-          unfolding sightRenameVerdict noForm
-          rename-unnamed y f e = rw e (second-refuses (sightVerdict layout s) _ _ (renamedSight layout s i w) o n (accepts z) en y)
+          unfolding sightRenameVerdict
+          rename-unnamed y f e = second-refuses (sightVerdict layout s) _ _ (renamedSight layout s i w) o n (accepts z) en y f e
 
           pub rename-by : (f : Form) (new : List ℕ) → n .number ≡ 0 → (let text = sightText (printedNames layout (r .starts) (r .rooms) i w) (v .rows) in Answers f new (rule40 text (length o)) text o) → Answers f new (sightRenameVerdict layout s i w (length o)) (renamedSight layout s i w) o
           unfolding sightRenameVerdict renamedSight

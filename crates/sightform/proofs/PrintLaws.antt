@@ -11,8 +11,6 @@ use lib.Dec.{eqb, ltb}
 use lib.ListN.{length, getD, length-map, length-set, length-append}
 use lib.Seq.{getD-set-same, getD-set-other}
 use borrow.Author.Tests.{eq-eqb, ne-eqb, lt-ltb}
-use Rattle.verdict.specs.declared.Form.{Form}
-use Rattle.verdict.specs.Verdict.{refused, rule}
 use Rattle.verdict.proofs.Bools.{test, decided}
 use Rattle.verdict.proofs.Lists.{map-at}
 use Rattle.letters.specs.Case.{lowered}
@@ -23,13 +21,10 @@ use Rattle.text.specs.Reading.{Word}
 use Rattle.letters.proofs.CaseLaws.{length-lowered}
 use Rattle.printer.proofs.WriteLaws.{wrote-none, wrote-then, dry-run}
 use Rattle.layout.specs.Starts.{keptName}
-use Rattle.text.specs.Written.{rule40}
 use Rattle.printer.proofs.WriteLaws.{wrote-is}
-use Rattle.verdict.proofs.Output.{Answers, refused-form}
-use Rattle.printer.proofs.FitLaws.{too-short, long-enough}
 use Rattle.sight.specs.Rows.{sees}
 use Rattle.sightform.specs.Form.{seenTo, seenLine, roomLines, linesTo, ended, sightText}
-use Rattle.sightform.specs.Code.{noForm, printedNames}
+use Rattle.sightform.specs.Code.{printedNames}
 use Rattle.sight.specs.Code.{keptNames}
 use Rattle.sight.proofs.FindLaws.{names-long, kept-is}
 
@@ -147,23 +142,3 @@ module _ (s starts : List ℕ) (n i : ℕ) (name : Word) (room : n ≤ length st
   pub rooms-done : {a b : List ℕ} {e : ℕ} (rows : List ℕ) (k : ℕ) → k ≡ n → Wrote a b 0 e (ended (linesTo (printedNames s starts n i name) rows k)) → Wrote a b 0 e (sightText (printedNames s starts n i name) rows)
   unfolding sightText
   rooms-done rows k h p = wrote-is _ p (rw (h, printed-long s starts n i name room))
-
--- ---- rule 40: a form that is too long, one that does not fit, and one that does
-
-over-40 : (text : List ℕ) (room : ℕ) → 65536 < length text → rule40 text room ≡ refused 40 0
-unfolding rule40 rule
-over-40 text room h = rw (lt-ltb 65536 (length text) h) (test (ltb room (length text)) (λ e. rw e) (λ e. rw e))
-
-module _ (text o part : List ℕ) (n : ℕ) where
-  pub too-long : (f : Form) → Wrote [] part 0 n text → 65536 < n → f ≡ noForm 40 0 → Answers f (part ++ o) (rule40 text (length o)) text o
-  unfolding noForm
-  too-long f w h e =
-      let z : part ≡ [] = dry-run w in
-      rw (e, z) (refused-form (rule40 text (length o)) text o 40 0 (over-40 text (length o) (omega (arith, w .next))) (λ y. omega arith))
-
-  pub too-short-out : (f : Form) → Wrote [] part 0 n text → length (part ++ o) < n → f ≡ noForm 40 0 → Answers f (part ++ o) (rule40 text (length o)) text o
-  unfolding noForm
-  too-short-out f w h e = rw e (too-short text o part n w h)
-
-  pub fits-out : Wrote [] part 0 n text → (new : List ℕ) (m : ℕ) → n ≤ 65536 → n ≤ length (part ++ o) → Wrote (part ++ o) new 0 m text → Answers (record { number = 0; place = 0; length = m }) new (rule40 text (length o)) text o
-  fits-out w new m h k q = long-enough text o part n w new m (omega (arith, w .next)) k q

@@ -1,15 +1,10 @@
--- What the code hands on: a refused rewriting, and the names that the printers take from a layout's text and the typed one. Definitions only.
+-- What the code hands on: the names that the printers take from a layout's text and the typed one. Definitions only.
 use Prim.Native.Nat.{ℕ}
 use mathlib.Core.List.{List, map}
 use lib.ListN.{set}
-use Rattle.verdict.specs.declared.Form.{Form}
 use Rattle.letters.specs.Case.{lowered}
 use Rattle.text.specs.Reading.{Word}
 use Rattle.sight.specs.Code.{keptNames}
-
--- a refused rewriting
-unfoldable pub noForm : ℕ → ℕ → Form
-noForm number place = record { number = number; place = place; length = 0 }
 
 -- the names of the first n rooms whose starts are kept, in lower case, with the typed name for room i
 unfoldable pub printedNames : List ℕ → List ℕ → ℕ → ℕ → Word → List Word

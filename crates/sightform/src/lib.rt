@@ -1,23 +1,12 @@
 // Visibility (VIS) in its fixed form, as it is and with another name for a room.
 use verdict::Form;
+use verdict::refused_form;
 ghost use mathlib.Core.Path.{_≡_};
 ghost use lib.ListN.{length};
 ghost use Rattle.verdict.specs.Output.{formAnswer, formMemory};
 ghost use Rattle.sightform.specs.Rewrite.{rewrittenSight, renamedSight, sightRewriteVerdict, sightRenameVerdict};
-ghost use Rattle.sightform.specs.Code.{noForm};
 
 mod print;
-
-// A refused rewriting.
-fn refused_form(number: u32, place: u32) -> Form
-    ensures { λ r. ⌜ r ≡ noForm number place ⌝ }
-{
-    Form {
-        number,
-        place,
-        length: 0,
-    }
-}
 
 // Visibility in its fixed form.
 pub fn sight_rewrite(layout: &[u8], vis: &[u8], out: &mut [u8]) -> Form

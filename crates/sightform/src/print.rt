@@ -1,9 +1,9 @@
 // The fixed form of visibility, printed: names, lines, rooms, and rule 40.
-use super::refused_form;
 use printer::put_byte;
 use rooms::room_name;
 use sight::is_seen;
 use verdict::Form;
+use verdict::refused_form;
 ghost use mathlib.Core.Path.{_≡_};
 ghost use mathlib.Core.Bool.{cond};
 ghost use mathlib.Core.List.{[], _∷_, map};

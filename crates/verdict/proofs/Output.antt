@@ -8,7 +8,7 @@ use lib.ListN.{length, take, drop, length-append, length-drop}
 use lib.Seq.{paste, take-at, drop-append-add, drop-drop, length-take-le}
 use borrow.Author.Tests.{ne-eqb}
 use Rattle.verdict.specs.Verdict.{accepted, refused, _then_}
-use Rattle.verdict.specs.Output.{over, formAnswer, formMemory}
+use Rattle.verdict.specs.Output.{over, noForm, formAnswer, formMemory}
 use Rattle.verdict.specs.declared.Answer.{Answer}
 use Rattle.verdict.specs.declared.Form.{Form}
 use Rattle.verdict.proofs.Verdict.{then-next, then-stop}
@@ -50,9 +50,8 @@ over-over c d o l =
 -- ---- a rewriting that is refused, and one that is not
 
 module _ (a : Answer) (form o : List ℕ) where
-  pub form-refused : (a .number ≡ 0 → ⊥)
-      → (_≡_ {A = Form} (record { number = a .number; place = a .place; length = 0 }) (formAnswer a form)) × (o ≡ formMemory a form o)
-  unfolding formAnswer formMemory
+  pub form-refused : (a .number ≡ 0 → ⊥) → (noForm (a .number) (a .place) ≡ formAnswer a form) × (o ≡ formMemory a form o)
+  unfolding noForm formAnswer formMemory
   form-refused z = rw (ne-eqb (a .number) 0 z) (refl, refl)
 
   pub form-written : (n : ℕ) → a .number ≡ 0 → a .place ≡ 0 → n ≡ length form
@@ -66,15 +65,15 @@ module _ (a : Answer) (form o : List ℕ) where
 abbrev pub Answers : Form → List ℕ → Answer → List ℕ → List ℕ → Type 0
 Answers f new v text o = (f ≡ formAnswer v text) × (new ≡ formMemory v text o)
 
-pub refused-form : (v : Answer) (text o : List ℕ) (n p : ℕ) → v ≡ refused n p → (n ≡ 0 → ⊥) → Answers (record { number = n; place = p; length = 0 }) o v text o
-refused-form v text o n p e z = rw e (form-refused (refused n p) text o z)
+pub refused-form : (v : Answer) (text o : List ℕ) (n p : ℕ) → v ≡ refused n p → (n ≡ 0 → ⊥) → (f : Form) → f ≡ noForm n p → Answers f o v text o
+refused-form v text o n p e z f ef = rw (e, ef) (form-refused (refused n p) text o z)
 
 -- three verdicts, one after the other: the first that refuses is answered, and where two accept the third decides
 module _ (u v b : Answer) where
-  pub first-refuses : (text o : List ℕ) (n p : ℕ) → u ≡ refused n p → (n ≡ 0 → ⊥) → Answers (record { number = n; place = p; length = 0 }) o (u then v then b) text o
+  pub first-refuses : (text o : List ℕ) (n p : ℕ) → u ≡ refused n p → (n ≡ 0 → ⊥) → (f : Form) → f ≡ noForm n p → Answers f o (u then v then b) text o
   first-refuses text o n p e z = refused-form (u then v then b) text o n p (rw (e, then-stop (refused n p) z v) (then-stop (refused n p) z b)) z
 
-  pub second-refuses : (text o : List ℕ) (a : Answer) → u ≡ accepted → a ≡ v → (a .number ≡ 0 → ⊥) → Answers (record { number = a .number; place = a .place; length = 0 }) o (u then v then b) text o
+  pub second-refuses : (text o : List ℕ) (a : Answer) → u ≡ accepted → a ≡ v → (a .number ≡ 0 → ⊥) → (f : Form) → f ≡ noForm (a .number) (a .place) → Answers f o (u then v then b) text o
   second-refuses text o a e ea z = refused-form (u then v then b) text o _ _ (rw (e, ← ea, then-next accepted a refl) (then-stop a z b)) z
 
   pub third-decides : (f : Form) (new text o : List ℕ) (a : Answer) → u ≡ accepted → a ≡ v → a .number ≡ 0 → Answers f new b text o → Answers f new (u then v then b) text o

@@ -12,6 +12,10 @@ use Rattle.verdict.specs.declared.Form.{Form}
 unfoldable pub over : List ℕ → List ℕ → List ℕ
 over done o = done ++ drop (length done) o
 
+-- a rewriting that is refused: it writes nothing
+unfoldable pub noForm : ℕ → ℕ → Form
+noForm number place = record { number = number; place = place; length = 0 }
+
 -- the verdict, and the length of the form, 0 on refusal
 unfoldable pub formAnswer : Answer → List ℕ → Form
 formAnswer a form = record { number = a .number; place = a .place; length = ifAccepted a (length form) }

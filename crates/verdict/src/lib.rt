@@ -1,10 +1,11 @@
-// What every rule is said with: answers joined in order, and the work memory with its marks.
+// What every rule is said with: answers joined in order, a rewriting refused, and the work memory with its marks.
 ghost use mathlib.Core.Path.{_≡_};
 ghost use Prim.Native.Nat.{_≤_};
 ghost use lib.ListN.{length};
 ghost use Rattle.verdict.specs.Lowest.{allUnder};
 ghost use Rattle.verdict.specs.Verdict.{rule, _then_};
 ghost use Rattle.verdict.specs.Memory.{workSize, clearedTo, isMarked};
+ghost use Rattle.verdict.specs.Output.{noForm};
 
 // A number of document 01, 0 for acceptance, and a place.
 #[repr(C)]
@@ -45,6 +46,17 @@ pub fn then_rule(so: Answer, number: u32, broken: bool, place: u32) -> Answer
         return so;
     }
     first_rule(number, broken, place)
+}
+
+// A rewriting that is refused.
+pub fn refused_form(number: u32, place: u32) -> Form
+    ensures { λ r. ⌜ r ≡ noForm number place ⌝ }
+{
+    Form {
+        number,
+        place,
+        length: 0,
+    }
 }
 
 // Makes the work memory zero; what lies past it stays.

@@ -4,6 +4,9 @@ ghost use Prim.Native.Nat.{_+_, _≤_, _<_};
 ghost use lib.ListN.{length};
 ghost use Rattle.wire.specs.Bytes.{u32At, fourBytes, putU32};
 
+// The word for none in every table: -1 as 32 bits.
+pub const NONE: u32 = 0xFFFF_FFFF;
+
 // A byte as a wider number.
 pub fn wide(byte: u8) -> u32
     ensures { λ r. ⌜ (r ≡ byte) × (r < 256) ⌝ }

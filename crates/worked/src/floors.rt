@@ -2,9 +2,7 @@
 use libc::STDOUT_FILENO;
 ghost use Prim.Native.Nat.{_+_, _≤_};
 
-// -1 as 32 bits, and the float 1.
-const NONE: u32 = 0xFFFF_FFFF;
-
+// The float 1.
 const ONE: u32 = 0x3F80_0000;
 
 fn word(b: &mut [u8; 288], at: usize, w: u32)
@@ -46,11 +44,11 @@ fn triangle(b: &mut [u8; 288]) {
     word(b, 216, ONE);
     word(b, 220, ONE);
     word(b, 232, 4);
-    word(b, 240, NONE);
-    word(b, 244, NONE);
-    word(b, 248, NONE);
-    word(b, 252, NONE);
-    word(b, 256, NONE);
+    word(b, 240, wire::NONE);
+    word(b, 244, wire::NONE);
+    word(b, 248, wire::NONE);
+    word(b, 252, wire::NONE);
+    word(b, 256, wire::NONE);
 }
 
 // The edges with their transitions, and the perimeter.
@@ -91,10 +89,22 @@ fn links(what: &[u8], t0: u32, t1: u32, t2: u32, rooms: &[u8]) {
 fn leads() {
     let two = b"beginlayout\nroomcount 2\nHall 0 0 0\nCourt 0 0 0\ndonelayout\n";
     let none = b"beginlayout\nroomcount 0\ndonelayout\n";
-    links(b"edges that lead to both rooms", 1, NONE, 0, two);
+    links(b"edges that lead to both rooms", 1, wire::NONE, 0, two);
     links(b"edge that leads past the rooms", 1, 2, 63, two);
-    links(b"edges that lead nowhere", NONE, NONE, NONE, none);
-    links(b"edge that leads on, no room", NONE, NONE, 0, none);
+    links(
+        b"edges that lead nowhere",
+        wire::NONE,
+        wire::NONE,
+        wire::NONE,
+        none,
+    );
+    links(
+        b"edge that leads on, no room",
+        wire::NONE,
+        wire::NONE,
+        0,
+        none,
+    );
 }
 
 // The floor is asked before the text, and the text before the edges.

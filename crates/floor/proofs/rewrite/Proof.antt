@@ -18,11 +18,11 @@ use Rattle.floor.proofs.rewrite.Tie as tie
 returns : tie.Need-returns
 unfolding rewriteAnswer rewriteMemory
 returns c =
-    let so = c .before .before .before .before .rewrite-verdict in
-    let a = c .before .before .before .before .before .before .before .before .before .before .args in
+    let so = c .before .before .before .before .before .rewrite-verdict in
+    let a = c .before .before .before .before .before .before .before .before .before .before .before .args in
     let form = fixedForm (now (a .bytes)) in
-    let h = form-refused (so .result) form (now (a .out)) (c .if1 .taken) in
-    (h .0 ∙ ap (λ (v : Answer). formAnswer v form) (so .ensures .0), (so .ensures .1, h .1 ∙ ap (λ (v : Answer). formMemory v form (now (a .out))) (so .ensures .0)))
+    let h = form-refused (so .result) form (now (a .out)) (c .before .if1 .taken) in
+    (c .refused-form .ensures ∙ h .0 ∙ ap (λ (v : Answer). formAnswer v form) (so .ensures .0), (so .ensures .1, h .1 ∙ ap (λ (v : Answer). formMemory v form (now (a .out))) (so .ensures .0)))
 
 -- the rewriter accepts
 abbrev lent : tie.Else1 → tie.Start
@@ -54,4 +54,4 @@ returns-2 c =
 pub rewrite-spec : {M : Type 1} → statement M
 rewrite-spec =
     tie.close
-    (tie.spec (search needs) (search needs) (search needs) returns form-length-requires write-form-requires (search needs) (search needs) (search needs) returns-2)
+    (tie.spec (search needs) (search needs) (search needs) (search needs) returns form-length-requires write-form-requires (search needs) (search needs) (search needs) returns-2)

@@ -13,18 +13,24 @@ sized c = search needs
 read-requires : tie.Need-read-requires
 read-requires c κs = search needs
 
+refused-form-requires : tie.Need-refused-form-requires
+refused-form-requires c κs = search needs
+
 returns : tie.Need-returns
 returns c =
-    let r = c .before .before in
-    rename-refused _ _ (sized r) (r .read .ensures) _ _ _ _ refl (c .if1 .taken)
+    let r = c .before .before .before in
+    rename-refused _ _ (sized r) (r .read .ensures) _ _ _ _ refl (c .before .if1 .taken) _ (c .refused-form .ensures)
 
 name-verdict-requires : tie.Need-name-verdict-requires
 name-verdict-requires c κs = search needs
 
+refused-form-requires-2 : tie.Need-refused-form-requires-2
+refused-form-requires-2 c κs = search needs
+
 returns-2 : tie.Need-returns-2
 returns-2 c =
-    let r = c .before .before .before .before .before in
-    rename-unnamed _ _ (sized r) (r .read .ensures) _ _ _ _ (c .before .before .name-verdict .ensures) (c .before .before .before .if1 .left) (c .if2 .taken)
+    let r = c .before .before .before .before .before .before in
+    rename-unnamed _ _ (sized r) (r .read .ensures) _ _ _ _ (c .before .before .before .name-verdict .ensures) (c .before .before .before .before .if1 .left) (c .before .if2 .taken) _ (c .refused-form2 .ensures)
 
 write-form-requires : tie.Need-write-form-requires
 write-form-requires c κs =
@@ -44,8 +50,10 @@ layout-rename-spec =
     tie.close
     (tie.spec
     read-requires
+    refused-form-requires
     returns
     name-verdict-requires
+    refused-form-requires-2
     returns-2
     write-form-requires
     same-length

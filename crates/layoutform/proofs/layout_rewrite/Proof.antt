@@ -15,8 +15,11 @@ sized c = search needs
 read-requires : tie.Need-read-requires
 read-requires c κs = search needs
 
+refused-form-requires : tie.Need-refused-form-requires
+refused-form-requires c κs = search needs
+
 returns : tie.Need-returns
-returns c = let r = c .before .before in rewrite-refused _ _ (sized r) (r .read .ensures) _ _ (c .if1 .taken)
+returns c = let r = c .before .before .before in rewrite-refused _ _ (sized r) (r .read .ensures) _ _ (c .before .if1 .taken) _ (c .refused-form .ensures)
 
 slice-aggregate-write-form : tie.Need-slice-aggregate-write-form
 slice-aggregate-write-form c = search needs
@@ -40,6 +43,7 @@ layout-rewrite-spec =
     tie.close
     (tie.spec
     read-requires
+    refused-form-requires
     returns
     slice-aggregate-write-form
     write-form-requires

@@ -18,13 +18,16 @@ slice-aggregate-put-form c = search needs
 put-form-requires : tie.Need-put-form-requires
 put-form-requires c κs = search needs
 
+refused-form-requires : tie.Need-refused-form-requires
+refused-form-requires c κs = search needs
+
 same-length : tie.Need-same-length
 same-length c = search needs
 
 returns : tie.Need-returns
 returns c =
-    let g = c .before .before .before .before .before .before .before .before in
-    too-short _ (g .args .out .now) _ _ (c .before .before .before .put-form .ensures) (c .if1 .taken)
+    let g = c .before .before .before .before .before .before .before .before .before in
+    too-short _ (g .args .out .now) _ _ (c .before .before .before .before .put-form .ensures) (c .before .if1 .taken) _ (c .refused-form .ensures)
 
 put-form-requires-2 : tie.Need-put-form-requires-2
 put-form-requires-2 c κs = search needs
@@ -43,7 +46,8 @@ written c = c .put-form2 .ensures
 returns-2 : tie.Need-returns-2
 returns-2 c =
     let g = c .before .before .before .before .before .before .before .before .before .before .before .before in
-    long-enough _ (g .args .out .now) _ _ (c .before .before .before .before .before .before .before .put-form .ensures) _ _ (omega (arith, g .pre .1)) (c .before .before .before .before .if1 .left) (written (c .before .before))
+    let dry = c .before .before .before .before .before .before .before .put-form .ensures in
+    long-enough _ (g .args .out .now) _ _ dry _ _ (omega (arith, dry .next, g .pre .1)) (c .before .before .before .before .if1 .left) (written (c .before .before))
 
 pub write-form-spec : {M : Type 1} → statement M
 write-form-spec =
@@ -52,6 +56,7 @@ write-form-spec =
     slice-relend-prefix-put-form
     slice-aggregate-put-form
     put-form-requires
+    refused-form-requires
     same-length
     returns
     put-form-requires-2

@@ -1,5 +1,5 @@
 -- `sightform::print::write_form` meets its contract. Assumes nothing.
-use Rattle.sightform.proofs.PrintLaws.{too-long, too-short-out, fits-out}
+use Rattle.printer.proofs.FitLaws.{too-long, too-short, long-enough}
 use borrow.Author.Needs.{needs}
 use Rattle.sightform.proofs.print.write_form.Statement.{statement}
 use Rattle.sightform.proofs.print.write_form.Tie as tie
@@ -20,7 +20,7 @@ same-length : tie.Need-same-length
 same-length c = search needs
 
 returns : tie.Need-returns
-returns c = too-long _ (c .before .before .before .before .before .before .before .before .before .before .before .args .out .now) _ _ _ (c .before .before .before .before .put-form .ensures) (c .before .if1 .taken) (c .refused-form .ensures)
+returns c = too-long _ (c .before .before .before .before .before .before .before .before .before .before .before .args .out .now) _ _ (c .before .before .before .before .put-form .ensures) (c .before .if1 .taken) _ (c .refused-form .ensures)
 
 refused-form-requires-2 : tie.Need-refused-form-requires-2
 refused-form-requires-2 c κs = search needs
@@ -29,7 +29,7 @@ same-length-2 : tie.Need-same-length-2
 same-length-2 c = search needs
 
 returns-2 : tie.Need-returns-2
-returns-2 c = too-short-out _ (c .before .before .before .before .before .before .before .before .before .before .before .before .args .out .now) _ _ _ (c .before .before .before .before .before .put-form .ensures) (c .before .if2 .taken) (c .refused-form2 .ensures)
+returns-2 c = too-short _ (c .before .before .before .before .before .before .before .before .before .before .before .before .args .out .now) _ _ (c .before .before .before .before .before .put-form .ensures) (c .before .if2 .taken) _ (c .refused-form2 .ensures)
 
 put-form-requires-2 : tie.Need-put-form-requires-2
 put-form-requires-2 c κs = search needs
@@ -41,7 +41,7 @@ same-length-3 : tie.Need-same-length-3
 same-length-3 c = search needs
 
 returns-3 : tie.Need-returns-3
-returns-3 c = fits-out _ (c .before .before .before .before .before .before .before .before .before .before .before .before .before .before .before .args .out .now) _ _ (c .before .before .before .before .before .before .before .before .put-form .ensures) _ _ (c .before .before .before .before .before .if1 .left) (c .before .before .before .before .if2 .left) (c .before .before .put-form2 .ensures)
+returns-3 c = long-enough _ (c .before .before .before .before .before .before .before .before .before .before .before .before .before .before .before .args .out .now) _ _ (c .before .before .before .before .before .before .before .before .put-form .ensures) _ _ (c .before .before .before .before .before .if1 .left) (c .before .before .before .before .if2 .left) (c .before .before .put-form2 .ensures)
 
 pub write-form-spec : {M : Type 1} → statement M
 write-form-spec =
