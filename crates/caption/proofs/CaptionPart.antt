@@ -25,7 +25,7 @@ use Rattle.layout.specs.Grammar.{Typed, start, namesOf}
 use Rattle.layout.specs.Layout.{layoutVerdict, layoutOf, grammar}
 use Rattle.rooms.specs.Rooms.{roomNames}
 use Rattle.caption.specs.Caption.{hasRoom, roomName, entersAs, namePlace, roomPlace}
-use Rattle.layout.proofs.EachLaws.{length-names, names-at}
+use Rattle.layout.proofs.ApartLaws.{length-names, names-at}
 use Rattle.layout.proofs.GoodLaws.{good-start}
 use Rattle.layout.proofs.ReadLaws.{layout-accepted, layout-refused}
 use Rattle.caption.proofs.PlaceLaws.{place-hit, place-next}

@@ -17,7 +17,8 @@ use Rattle.names.proofs.NameLaws.{name-clean}
 use Rattle.layout.specs.Grammar.{namesOf}
 use Rattle.layout.specs.Layout.{layoutOf}
 use Rattle.rooms.specs.Rooms.{roomNames}
-use Rattle.layout.proofs.EachLaws.{each-at, length-names, names-at}
+use Rattle.verdict.proofs.Each.{each-at}
+use Rattle.layout.proofs.ApartLaws.{length-names, names-at}
 use Rattle.layout.specs.Plain.{IsEntry}
 use Rattle.layout.proofs.ReadLaws.{layout-good}
 use Rattle.caption.specs.declared.CaptionAt.{CaptionAt}

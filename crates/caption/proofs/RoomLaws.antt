@@ -21,7 +21,7 @@ use Rattle.names.proofs.NameLaws.{same-refl, same-true, same-name-refl}
 use Rattle.text.proofs.ReadingLaws.{read-next, read-stop, read-end}
 use Rattle.layout.specs.Grammar.{Typed, State, namesOf, withEntry, opens, wordsOf, openFault, fault, next, finish, layoutGrammar, readFrom}
 use Rattle.caption.specs.Caption.{entersAs}
-use Rattle.layout.proofs.EachLaws.{Apart, length-names, names-at}
+use Rattle.layout.proofs.ApartLaws.{Apart, length-names, names-at}
 use Rattle.layout.proofs.GoodLaws.{Good, good-next, entry-four, opens-later, open-some, open-words}
 use Rattle.layout.proofs.ReadLaws.{read-sane}
 use Rattle.caption.proofs.PlaceLaws.{enters-no, enters-by}

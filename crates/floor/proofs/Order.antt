@@ -7,22 +7,35 @@ use Prim.Native.Nat.{ℕ}
 use lib.Dec.{eqb}
 use Rattle.verdict.specs.Verdict.{_then_, inOrder, FirstBroken}
 use Rattle.verdict.specs.declared.Answer.{Answer}
-use Rattle.verdict.proofs.Verdict.{then-next, then-stop, then-assoc, then-last, Proper, rule-proper, each-proper, then-proper, first-broken, first-only}
-use Rattle.tables.specs.Header.{headerVerdict, rules2to6}
-use Rattle.tables.specs.Parts.{Parts, partsOf}
+use Rattle.verdict.proofs.Verdict.{then-next, then-stop, then-assoc, then-last, Proper, rule-proper, each-proper, then-proper, order-append, first-broken, first-only}
+use Rattle.tables.specs.Header.{headerRules, headerVerdict}
+use Rattle.tables.specs.Parts.{Parts, partsOf, wordPlace}
 use Rattle.mesh.specs.Mesh.{rules7to10}
 use Rattle.nodes.specs.Nodes.{rules11to12}
 use Rattle.tree.specs.Boxes.{rules13to14}
 use Rattle.pairs.specs.Halves.{rules15to16}
 use Rattle.border.specs.Loops.{wrongLoop, loopStart, rule19, rules17to19}
 use Rattle.floor.specs.Groups.{rules7to12, rules15to19, rules13to19, rules1to19}
-use Rattle.floor.specs.Reader.{rule20, readerVerdict, readerRules}
+use Rattle.floor.specs.Reader.{rule20, partRules, readerRules, readerVerdict}
 
 -- ---- the table, by groups
 
+last-proper : (p : Parts) → Proper (rule19 p)
+unfolding rule19
+last-proper p =
+    then-proper _ _ (each-proper 18 (p .perimeters) (wrongLoop p) (λ j. j))
+    (rule-proper 18 (not (eqb (loopStart p (p .perimeters)) (p .edges))) (p .perimeters))
+
+parts-by-groups : (place : ℕ → ℕ → ℕ) (p : Parts) → inOrder (partRules place p) ≡ (rules7to12 place p then rules13to19 p)
+unfolding partRules inOrder rules7to12 rules13to19 rules15to19 rules7to10 rules11to12 rules13to14 rules15to16 rules17to19
+parts-by-groups place p = simp (then-assoc, then-last (rule19 p) (last-proper p))
+
 pub by-groups : (b : List ℕ) (room : ℕ) → readerVerdict b room ≡ (rule20 room then rules1to19 b)
-unfolding readerVerdict rules1to19 rules7to12 rules13to19 rules15to19 headerVerdict rules2to6 rules7to10 rules11to12 rules13to14 rules15to16 rules17to19
-by-groups b room = simp then-assoc
+unfolding readerVerdict readerRules inOrder rules1to19 headerVerdict
+by-groups b room =
+    ap (λ (r : Answer). rule20 room then r)
+    (order-append (headerRules b) (partRules (wordPlace b) (partsOf b))
+    ∙ ap (λ (r : Answer). inOrder (headerRules b) then r) (parts-by-groups (wordPlace b) (partsOf b)))
 
 -- ---- one group, then the next, as code goes
 
@@ -37,18 +50,9 @@ zero a r e z = sym (ap (λ (x : Answer). x .number) e) ∙ z
 
 -- ---- the first broken rule in order
 
-last-proper : (p : Parts) → Proper (rule19 p)
-unfolding rule19
-last-proper p =
-    then-proper _ _ (each-proper 18 (p .perimeters) (wrongLoop p) (λ j. j))
-    (rule-proper 18 (not (eqb (loopStart p (p .perimeters)) (p .edges))) (p .perimeters))
-
-in-order : (b : List ℕ) (room : ℕ) → readerVerdict b room ≡ inOrder (readerRules b room)
-unfolding readerVerdict readerRules inOrder
-in-order b room = simp (then-assoc, then-last (rule19 (partsOf b)) (last-proper (partsOf b)))
-
 pub reader-first : (b : List ℕ) (room : ℕ) → FirstBroken (readerRules b room) (readerVerdict b room)
-reader-first b room = rw (in-order b room) (first-broken (readerRules b room))
+unfolding readerVerdict
+reader-first b room = first-broken (readerRules b room)
 
 -- two answers that the table admits are equal
 pub reader-only : (b : List ℕ) (room : ℕ) (a : Answer) → FirstBroken (readerRules b room) a → a ≡ readerVerdict b room

@@ -2,15 +2,14 @@
 -- Definitions only.
 use Prim.Native.Nat.{ℕ}
 use mathlib.Core.Bool.{cond}
-use mathlib.Core.List.{List, [], _∷_}
+use mathlib.Core.List.{List, [], _∷_, _++_}
 use lib.ListN.{length}
 use lib.Dec.{ltb}
 use Rattle.verdict.specs.Lists.{tally}
-use Rattle.verdict.specs.Verdict.{rule, _then_, ifAccepted}
+use Rattle.verdict.specs.Verdict.{rule, inOrder, ifAccepted}
 use Rattle.verdict.specs.Memory.{workSize, clearedTo}
 use Rattle.verdict.specs.declared.Answer.{Answer}
-use Rattle.tables.specs.Tables.{rule5, rule6}
-use Rattle.tables.specs.Header.{floorTables, rule1, rule2, rule3, rule4}
+use Rattle.tables.specs.Header.{headerRules}
 use Rattle.tables.specs.Parts.{Parts, partsOf, wordPlace, material}
 use Rattle.mesh.specs.Floats.{rule7}
 use Rattle.mesh.specs.Faces.{rule8, rule9, rule10, walkable}
@@ -25,37 +24,29 @@ use Rattle.floor.specs.declared.Floor.{Floor}
 unfoldable pub rule20 : ℕ → Answer
 rule20 room = rule 20 (ltb room workSize) 0
 
--- the reader's refusals, in order
-unfoldable pub readerVerdict : List ℕ → ℕ → Answer
-readerVerdict b room =
-    rule20 room then
-    rule1 b then
-    rule2 b then
-    rule3 b then
-    rule4 b then
-    rule5 136 9 floorTables b then
-    rule6 9 floorTables b then
-    rule7 (wordPlace b) (partsOf b) then
-    rule8 (partsOf b) then
-    rule9 (partsOf b) then
-    rule10 (partsOf b) then
-    rule11 (partsOf b) then
-    rule12 (partsOf b) then
-    rule13 (partsOf b) then
-    rule14 (partsOf b) then
-    rule15 (partsOf b) then
-    rule16 (partsOf b) then
-    rule17 (partsOf b) then
-    rule18 (partsOf b) then
-    rule19 (partsOf b)
+-- 7 to 19, of the parts; `place` tells where a word of a table lies
+unfoldable pub partRules : (ℕ → ℕ → ℕ) → Parts → List Answer
+partRules place p =
+    rule7 place p ∷
+    rule8 p ∷
+    rule9 p ∷
+    rule10 p ∷
+    rule11 p ∷
+    rule12 p ∷
+    rule13 p ∷
+    rule14 p ∷
+    rule15 p ∷
+    rule16 p ∷
+    rule17 p ∷
+    rule18 p ∷
+    rule19 p ∷ []
 
--- the same rules as a list, for the theorem that the verdict is the first broken one in order
+-- the reader's refusals, in order: 20, 1 to 6, 7 to 19
 unfoldable pub readerRules : List ℕ → ℕ → List Answer
-readerRules b room =
-    rule20 room ∷ rule1 b ∷ rule2 b ∷ rule3 b ∷ rule4 b ∷ rule5 136 9 floorTables b ∷ rule6 9 floorTables b ∷
-    rule7 (wordPlace b) (partsOf b) ∷ rule8 (partsOf b) ∷ rule9 (partsOf b) ∷ rule10 (partsOf b) ∷ rule11 (partsOf b) ∷
-    rule12 (partsOf b) ∷ rule13 (partsOf b) ∷ rule14 (partsOf b) ∷ rule15 (partsOf b) ∷ rule16 (partsOf b) ∷
-    rule17 (partsOf b) ∷ rule18 (partsOf b) ∷ rule19 (partsOf b) ∷ []
+readerRules b room = rule20 room ∷ (headerRules b ++ partRules (wordPlace b) (partsOf b))
+
+unfoldable pub readerVerdict : List ℕ → ℕ → Answer
+readerVerdict b room = inOrder (readerRules b room)
 
 -- how many faces are walkable
 unfoldable pub walkableFaces : Parts → ℕ

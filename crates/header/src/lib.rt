@@ -7,9 +7,9 @@ ghost use mathlib.Core.Path.{_≡_};
 ghost use Prim.Native.Nat.{_+_, _<_, _≤_, min, max};
 ghost use lib.ListN.{length};
 ghost use Rattle.verdict.specs.Lowest.{lowest};
-ghost use Rattle.verdict.specs.Verdict.{_then_};
+ghost use Rattle.verdict.specs.Verdict.{_then_, inOrder};
 ghost use Rattle.tables.specs.Tables.{tableAt, outside, shares, sharesEarlier, outsideAt};
-ghost use Rattle.tables.specs.Header.{floorTables, magic, wrongLength, startsWrong, rule4, rules2to6, headerVerdict};
+ghost use Rattle.tables.specs.Header.{floorTables, magic, wrongLength, startsWrong, rule4, fieldRules, headerVerdict};
 
 const MAGIC: [u8; 8] = [66, 87, 77, 32, 86, 49, 46, 48];
 
@@ -152,7 +152,7 @@ fn offset_field(k: usize) -> u32
 // Rules 2 to 6 of a file that is long enough.
 fn fields_verdict(bytes: &[u8]) -> Answer
     requires { ⌜ 136 ≤ length (now bytes) ⌝ }
-    ensures { λ r. ⌜ r ≡ rules2to6 (now (bytes .entry)) ⌝ }
+    ensures { λ r. ⌜ r ≡ inOrder (fieldRules (now (bytes .entry))) ⌝ }
 {
     let a = verdict::first_rule(2, starts_wrong(bytes), 0);
     let b = verdict::then_rule(a, 3, wire::u32_at(bytes, 8) != 1, 8);

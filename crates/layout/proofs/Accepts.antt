@@ -14,7 +14,7 @@ use Rattle.text.proofs.ReadingLaws.{read-end}
 use Rattle.text.proofs.AcceptLaws as accept
 use Rattle.text.proofs.AcceptLaws.{Steady}
 use Rattle.layout.specs.Grammar.{Typed, State, Reading, fault, next, finish, layoutGrammar, readFrom}
-use Rattle.layout.proofs.EachLaws.{Each}
+use Rattle.verdict.proofs.Each.{Each}
 
 -- read with these entries
 abbrev pub with : Typed → Reading

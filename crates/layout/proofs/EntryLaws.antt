@@ -16,7 +16,8 @@ use Rattle.number.specs.Count.{value}
 use Rattle.number.proofs.DecimalLaws.{decimal-ok}
 use Rattle.layout.specs.Grammar.{Typed, State, sectionOf, follows, opens, withEntry, namesOf, known, placed, entryFault, openFault, fault, next, beginlayout, roomcount, trackcount, obstaclecount, doorhookcount, donelayout}
 use Rattle.layout.specs.Plain.{IsEntry}
-use Rattle.layout.proofs.EachLaws.{Each, Apart, apart-before}
+use Rattle.verdict.proofs.Each.{Each}
+use Rattle.layout.proofs.ApartLaws.{Apart, apart-before}
 use Rattle.layout.proofs.GoodLaws.{entry-good}
 use Rattle.layout.proofs.Accepts.{Accepts, accepts-next, next-accepts, end-accepts, Full}
 

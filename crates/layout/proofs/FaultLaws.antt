@@ -10,10 +10,9 @@ use borrow.Author.Tests.{eq-eqb, ne-eqb, lt-ltb, le-ltb}
 use Rattle.text.specs.Scan.{words, lineAt}
 use Rattle.names.specs.Name.{isName}
 use Rattle.text.specs.Reading.{Word, Line, nth}
-use Rattle.layout.specs.Grammar.{State, opens, placed, openFault, entryFault, fault, namesOf, known}
-use Rattle.layout.specs.Grammar.{knownBut}
+use Rattle.layout.specs.Grammar.{State, opens, placed, openFault, entryFault, fault, namesOf, known, knownBut}
 use Rattle.layout.specs.Starts.{entryAt}
-use Rattle.layout.proofs.EachLaws.{length-names}
+use Rattle.layout.proofs.ApartLaws.{length-names}
 use Rattle.layout.proofs.HeldLaws.{known-all}
 
 -- ---- an entry

@@ -1,6 +1,6 @@
 -- What holds of a reading at each line: the entries so far are right, no two rooms have one name, and no section has more than 64.
 -- Assumes nothing.
-use mathlib.Core.Path.{_≡_, refl, ap, _∙_}
+use mathlib.Core.Path.{_≡_, refl, _∙_}
 use mathlib.Core.Bool.{Bool, true, false, cond, not, _&&_, _||_}
 use mathlib.Core.List.{List, [], _∷_, _++_}
 use Prim.Native.Nat.{ℕ, suc, _+_, _-_, _≤_, _<_}
@@ -19,7 +19,8 @@ use Rattle.number.proofs.DecimalLaws.{read-decimal}
 use Rattle.text.specs.Reading.{Word, Line, nth}
 use Rattle.layout.specs.Grammar.{State, start, sectionOf, follows, opens, withEntry, namesOf, known, placed, entryFault, wordsOf, countRight, openFault, fault, next}
 use Rattle.layout.specs.Plain.{IsEntry}
-use Rattle.layout.proofs.EachLaws.{Each, each-more, Apart, apart-none, apart-more, names-more}
+use Rattle.verdict.proofs.Each.{Each, each-more}
+use Rattle.layout.proofs.ApartLaws.{Apart, apart-none, apart-more, names-more}
 
 -- ---- the first fault is none
 

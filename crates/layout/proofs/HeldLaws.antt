@@ -15,10 +15,10 @@ use Rattle.text.specs.Scan.{words, lineAt}
 use Rattle.names.specs.Name.{isName, sameName}
 use Rattle.layout.specs.declared.Progress.{Progress}
 use Rattle.text.specs.Reading.{Word, Line, nth}
-use Rattle.layout.specs.Grammar.{namesOf, known, opens}
-use Rattle.layout.specs.Grammar.{knownBut}
+use Rattle.layout.specs.Grammar.{namesOf, known, opens, knownBut}
 use Rattle.layout.specs.Starts.{entryAt, held, Named, countIn, entered, movedTo, slotOf, kept}
-use Rattle.layout.proofs.EachLaws.{Each, each-at, length-names, names-at}
+use Rattle.verdict.proofs.Each.{Each, each-at}
+use Rattle.layout.proofs.ApartLaws.{length-names, names-at}
 use Rattle.layout.specs.Plain.{IsEntry}
 
 -- ---- how many entries are kept, and which

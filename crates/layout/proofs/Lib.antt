@@ -1,4 +1,4 @@
-pub mod EachLaws
+pub mod ApartLaws
 pub mod GoodLaws
 pub mod ReadLaws
 pub mod Accepts

@@ -19,7 +19,8 @@ use Rattle.number.specs.Count.{value}
 use Rattle.layout.specs.Grammar.{Typed, nothing, start, Reading, sectionOf, follows, opens, namesOf, wordsOf, openFault, beginlayout, roomcount, trackcount, obstaclecount, doorhookcount, donelayout}
 use Rattle.layout.specs.Layout.{grammar, layoutVerdict, layoutOf}
 use Rattle.layout.specs.Plain.{Section, Optional, Spelled}
-use Rattle.layout.proofs.EachLaws.{Each, Apart, length-names, names-at}
+use Rattle.verdict.proofs.Each.{Each}
+use Rattle.layout.proofs.ApartLaws.{Apart, length-names, names-at}
 use Rattle.layout.proofs.GoodLaws.{open-some, open-words, opens-later, good-start}
 use Rattle.layout.proofs.ReadLaws.{read-sane, layout-sound, verdict-sound, verdict-unsound, grammar-sane}
 use Rattle.layout.proofs.Accepts.{with, Accepts, read-any, accepts-end, end-accepts, accepts-spoken, spoken-accepts, spoken-full, Full}

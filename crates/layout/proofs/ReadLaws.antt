@@ -16,7 +16,8 @@ use Rattle.text.specs.Sound.{rules31to32, rule31, rule32}
 use Rattle.text.specs.Reading.{Line}
 use Rattle.layout.specs.Grammar.{Typed, nothing, State, start, Reading, stopped, namesOf, fault, next, finish, layoutGrammar, readFrom}
 use Rattle.layout.specs.Layout.{grammar, layoutVerdict, layoutOf}
-use Rattle.layout.proofs.EachLaws.{Each, Apart}
+use Rattle.verdict.proofs.Each.{Each}
+use Rattle.layout.proofs.ApartLaws.{Apart}
 use Rattle.layout.specs.Plain.{IsEntry}
 use Rattle.layout.proofs.GoodLaws.{Good, good-start, good-next}
 

@@ -16,7 +16,7 @@ use Rattle.text.specs.Reading.{Word, Line, nth}
 use Rattle.number.specs.Count.{value, isCount}
 use Rattle.layout.specs.Grammar.{Typed, sectionOf, opens, wordsOf, countRight, openFault}
 use Rattle.layout.specs.Plain.{IsEntry, Section, Optional}
-use Rattle.layout.proofs.EachLaws.{Each, each-at, each-of}
+use Rattle.verdict.proofs.Each.{Each, each-at, each-of}
 use Rattle.layout.proofs.GoodLaws.{open-some, open-words, open-count, count-right, opens-later, hooks-none}
 use Rattle.layout.proofs.Accepts.{Accepts, accepts-blank, blank-accepts, end-accepts, Full}
 use Rattle.layout.proofs.EntryLaws.{at, withEntries, entries-none, Fresh, entries-accept, Taken, accepts-entries, keyOf, section-key, opens-is, opens-by, follows-by, open-accepts, accepts-open}

@@ -6,7 +6,7 @@ use mathlib.Core.Bool.{true, cond}
 use mathlib.Core.List.{List, [], _∷_, map}
 use lib.ListN.{length, take, drop, set, getD}
 use lib.Dec.{ltb, eqb}
-use Rattle.verdict.specs.declared.Answer.{Answer}
+use Rattle.verdict.specs.Verdict.{refused}
 use Rattle.text.specs.Scan.{words, lineAt}
 use Rattle.names.specs.Name.{isName}
 use Rattle.number.specs.Count.{value, isCount}
@@ -82,10 +82,10 @@ pub record Held (s : List ℕ) (r : Layout) (t : Typed) : Type 0 where
 
 -- the code found what a reading says
 pub record Found (s : List ℕ) (r : Layout) (found : Reading) : Type 0 where
-  pub verdict : _≡_ {A = Answer} (record { number = r .number; place = r .place }) (found .verdict)
+  pub verdict : refused (r .number) (r .place) ≡ found .verdict
   pub held : Held s r (found .typed)
 
 -- what the reader answers: the layout's verdict, and where its entries are
 pub record Answered (s : List ℕ) (r : Layout) : Type 0 where
-  pub verdict : _≡_ {A = Answer} (record { number = r .number; place = r .place }) (layoutVerdict s)
+  pub verdict : refused (r .number) (r .place) ≡ layoutVerdict s
   pub held : Held s r (layoutOf s)

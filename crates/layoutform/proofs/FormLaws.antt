@@ -12,7 +12,7 @@ use Rattle.text.specs.Reading.{Word, Line, spoken}
 use Rattle.layout.specs.Grammar.{Typed, start, readFrom, roomcount, trackcount, obstaclecount, doorhookcount, donelayout}
 use Rattle.layoutform.specs.Form.{Entry, LayoutParts, entryLine, section, form}
 use Rattle.layout.specs.Plain.{IsEntry, Section, Spelled}
-use Rattle.layout.proofs.EachLaws.{Each, each-at, each-map}
+use Rattle.verdict.proofs.Each.{Each, each-at, each-map}
 use Rattle.layout.proofs.PlainLaws.{apart-told, spelled-accepts}
 use Rattle.layoutform.proofs.PartLaws.{GoodEntry, GoodParts, line-good, line-names}
 

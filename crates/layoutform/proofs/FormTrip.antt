@@ -1,7 +1,7 @@
 -- The fixed form's text is accepted and read as the same parts, with six places; a second rewriting changes no byte. Assumes nothing.
 use mathlib.Core.Path.{_≡_, refl, ap, _∙_}
 use mathlib.Core.Bool.{Bool, true, false, _||_}
-use mathlib.Core.List.{List, [], _∷_, _++_, map}
+use mathlib.Core.List.{List, []}
 use Prim.Native.Nat.{ℕ, _≤_}
 use native.Mathlib.Omega.{arith}
 use lib.Dec.{ltb}
@@ -13,15 +13,15 @@ use Rattle.letters.specs.Class.{classOf, nameByte}
 use Rattle.text.specs.Scan.{run}
 use Rattle.text.specs.Sound.{rules31to32}
 use Rattle.names.specs.Name.{isName}
-use Rattle.text.proofs.WrittenLaws.{AllLines, Plain, written-read, written-sound}
+use Rattle.text.proofs.WrittenLaws.{AllPlain, AllLines, Plain, written-read, written-sound}
 use Rattle.names.proofs.WordLaws.{name-plain}
 use Rattle.number.proofs.WordLaws.{count-plain}
-use Rattle.text.specs.Reading.{Word, Line}
+use Rattle.text.specs.Reading.{Word}
 use Rattle.layout.specs.Grammar.{Reading, start, readFrom, beginlayout, roomcount, trackcount, obstaclecount, doorhookcount, donelayout}
 use Rattle.layout.specs.Layout.{grammar, layoutVerdict, layoutOf}
 use Rattle.layoutform.specs.Form.{Entry, LayoutParts, partsOfTyped, partsOf, sixedParts, sixedEntry, entryLine, section, form, formText}
 use Rattle.text.specs.Written.{rule40}
-use Rattle.layout.proofs.EachLaws.{Each}
+use Rattle.verdict.proofs.Each.{Each, each-append, each-map}
 use Rattle.layout.proofs.ReadLaws.{verdict-sound, layout-accepted}
 use Rattle.layoutform.proofs.PartLaws.{GoodEntry, GoodParts, parts-good, line-plain, lines-again, lines-sixed}
 use Rattle.layoutform.proofs.FormLaws.{formTyped, form-lines}
@@ -29,17 +29,9 @@ use Rattle.layoutform.proofs.LengthLaws.{form-short}
 
 -- ---- the form can be written
 
-all-lines : (a b : List Line) → AllLines a → AllLines b → AllLines (a ++ b)
-all-lines [] b p q = q
-all-lines (l ∷ a) b (h, p) q = (h, all-lines a b p q)
-
-entries-plain : (es : List Entry) → Each GoodEntry es → AllLines (map entryLine es)
-entries-plain [] g = tt
-entries-plain (e ∷ es) (g, h) = (line-plain e g, entries-plain es h)
-
 section-plain : (key : Word) (es : List Entry) → Plain key → Each GoodEntry es → AllLines (section key es)
 unfolding section
-section-plain key es k g = ((k, (count-plain (length es), tt)), entries-plain es g)
+section-plain key es k g = ((k, (count-plain (length es), tt)), each-map GoodEntry AllPlain entryLine line-plain es g)
 
 plain-first : Plain beginlayout
 unfolding beginlayout isName nameByte classOf run
@@ -69,10 +61,10 @@ form-plain : (p : LayoutParts) → GoodParts p → AllLines (form p)
 unfolding form
 form-plain p g = (
   (plain-first, tt),
-  all-lines (section roomcount (p .rooms)) _ (section-plain roomcount (p .rooms) plain-rooms (g .rooms))
-      (all-lines (section trackcount (p .tracks)) _ (section-plain trackcount (p .tracks) plain-tracks (g .tracks))
-      (all-lines (section obstaclecount (p .obstacles)) _ (section-plain obstaclecount (p .obstacles) plain-obstacles (g .obstacles))
-      (all-lines (section doorhookcount []) _ (section-plain doorhookcount [] plain-hooks tt) ((plain-last, tt), tt)))),
+  each-append AllPlain (section roomcount (p .rooms)) _ (section-plain roomcount (p .rooms) plain-rooms (g .rooms))
+      (each-append AllPlain (section trackcount (p .tracks)) _ (section-plain trackcount (p .tracks) plain-tracks (g .tracks))
+      (each-append AllPlain (section obstaclecount (p .obstacles)) _ (section-plain obstaclecount (p .obstacles) plain-obstacles (g .obstacles))
+      (each-append AllPlain (section doorhookcount []) _ (section-plain doorhookcount [] plain-hooks tt) ((plain-last, tt), tt)))),
 )
 
 -- ---- right parts, written and read

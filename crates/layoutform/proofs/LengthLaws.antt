@@ -1,25 +1,20 @@
 -- How long the fixed form is: at most 12,000 bytes. Assumes nothing.
-use mathlib.Core.Path.{_≡_, refl, sym, ap, _∙_}
-use mathlib.Core.List.{List, [], _∷_, _++_, map, append-assoc}
+use mathlib.Core.Path.{_≡_, refl, ap, _∙_}
+use mathlib.Core.List.{List, [], _∷_, _++_, map}
 use Prim.Native.Nat.{ℕ, suc, _+_, _*_, _≤_}
 use native.Mathlib.Omega.{arith}
 use lib.ListN.{length, length-append}
 use Rattle.number.specs.declared.Num.{Num}
 use Rattle.number.specs.Number.{printed, plain, sixed}
-use Rattle.text.specs.Written.{after, spaced, written}
+use Rattle.text.specs.Written.{after, spaced, ended, written}
+use Rattle.text.proofs.WrittenLaws.{ended-long, written-append}
 use Rattle.number.proofs.DigitLaws.{plain-short, printed-short}
 use Rattle.names.proofs.NameLaws.{name-long}
 use Rattle.text.specs.Reading.{Word, Line}
 use Rattle.layout.specs.Grammar.{beginlayout, roomcount, trackcount, obstaclecount, doorhookcount, donelayout}
 use Rattle.layoutform.specs.Form.{Entry, LayoutParts, entryLine, section, form, formText}
-use Rattle.layout.proofs.EachLaws.{Each}
+use Rattle.verdict.proofs.Each.{Each}
 use Rattle.layoutform.proofs.PartLaws.{GoodEntry, GoodParts}
-
--- lines one after the other
-pub written-append : (a b : List Line) → written (a ++ b) ≡ written a ++ written b
-unfolding written
-written-append [] b = refl
-written-append (l ∷ a) b = rw (written-append a b) (sym (append-assoc (spaced l) (10 ∷ written a) (written b)))
 
 -- a word behind others
 after-long : (w : Word) (ws : Line) → length (after (w ∷ ws)) ≡ suc (length w + length (after ws))
@@ -35,8 +30,7 @@ unfolding spaced
 spaced-long w ws = length-append w (after ws)
 
 pub written-long : (l : Line) (ls : List Line) → length (written (l ∷ ls)) ≡ suc (length (spaced l) + length (written ls))
-unfolding written
-written-long l ls = length-append (spaced l) (10 ∷ written ls) ∙ omega arith
+written-long l ls = ended-long (spaced l) (map spaced ls)
 
 pub number-short : (x : Num) → length (printed (sixed x)) ≤ 13
 unfolding sixed
@@ -55,7 +49,7 @@ unfolding entryLine
 entry-short e h = numbers-short (e .name) (e .x) (e .y) (e .z) h
 
 entries-short : (es : List Entry) → Each GoodEntry es → length (written (map entryLine es)) ≤ 59 * length es
-unfolding written
+unfolding ended
 entries-short [] g = omega arith
 entries-short (e ∷ es) (g, h) =
     let i : length (written (map entryLine es)) ≤ 59 * length es = entries-short es h in
@@ -78,7 +72,7 @@ unfolding spaced after beginlayout
 first-short = refl
 
 last-short : length (written ((donelayout ∷ []) ∷ [])) ≡ 11
-unfolding written spaced after donelayout
+unfolding ended spaced after donelayout
 last-short = refl
 
 rooms-key : length roomcount ≤ 13

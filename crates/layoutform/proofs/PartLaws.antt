@@ -21,7 +21,8 @@ use Rattle.text.specs.Reading.{Word, Line, nth}
 use Rattle.layout.specs.Grammar.{Typed, namesOf}
 use Rattle.layout.specs.Layout.{layoutOf}
 use Rattle.layoutform.specs.Form.{Entry, LayoutParts, entryOf, partsOfTyped, partsOf, sixedEntry, entryLine}
-use Rattle.layout.proofs.EachLaws.{Each, each-map, Apart}
+use Rattle.verdict.proofs.Each.{Each, each-map}
+use Rattle.layout.proofs.ApartLaws.{Apart}
 use Rattle.layout.specs.Plain.{IsEntry}
 use Rattle.layout.proofs.ReadLaws.{GoodTyped, layout-good}
 

@@ -1,8 +1,8 @@
 -- What the printers write, put together, and how far they come. Assumes nothing.
-use mathlib.Core.Path.{_≡_, refl, sym, ap, _∙_}
+use mathlib.Core.Path.{_≡_, sym, ap, _∙_}
 use mathlib.Core.Bool.{Bool, true, false, cond}
 use mathlib.Core.List.{List, [], _∷_, _++_, map, map-append, append-assoc, append-nil}
-use Prim.Native.Nat.{ℕ, suc, _+_, _≤_, _<_}
+use Prim.Native.Nat.{ℕ, _+_, _≤_, _<_}
 use native.Mathlib.Numerals.{add-one}
 use native.Mathlib.Omega.{arith}
 use native.Mathlib.Decide.{ℕ-discrete}
@@ -17,30 +17,31 @@ use Rattle.text.specs.Scan.{words, lineAt}
 use Rattle.letters.specs.Case.{lowered}
 use Rattle.number.specs.Number.{numberOf, printed, plain, sixed}
 use Rattle.printer.specs.Write.{Wrote}
-use Rattle.text.specs.Written.{after, spaced, written}
+use Rattle.text.specs.Written.{after, spaced, ended, written}
+use Rattle.text.proofs.WrittenLaws.{ended-one, written-append}
 use Rattle.names.proofs.NameLaws.{name-long}
 use Rattle.letters.proofs.CaseLaws.{length-lowered}
 use Rattle.printer.proofs.WriteLaws.{wrote-none, wrote-then, wrote-is}
 use Rattle.text.specs.Reading.{Word, Line, nth}
-use Rattle.layoutform.specs.Form.{Entry, entryOf, entryLine, section}
-use Rattle.layoutform.specs.Rewrite.{entryNamed, renamedAt}
+use Rattle.layoutform.specs.Form.{Entry, entryNamed, entryOf, entryLine, section}
+use Rattle.layoutform.specs.Rewrite.{renamedAt}
 use Rattle.layout.specs.Starts.{entryAt, held, NamedFrom}
 use Rattle.layout.proofs.HeldLaws.{held-long, held-at}
-use Rattle.layoutform.proofs.LengthLaws.{written-append, written-long, numbers-short, number-short}
+use Rattle.layoutform.proofs.LengthLaws.{numbers-short, number-short}
 use Rattle.layoutform.proofs.RenameLaws.{renamed-long, renamed-here, renamed-other}
 
 -- ---- one line's bytes
 
 pub key-bytes : (key : Word) → key ++ (10 ∷ []) ≡ written ((key ∷ []) ∷ [])
-unfolding written spaced after
+unfolding ended spaced after
 key-bytes key = simp (append-nil)
 
 pub head-bytes : (key p : Word) → key ++ ((32 ∷ []) ++ (p ++ (10 ∷ []))) ≡ written ((key ∷ p ∷ []) ∷ [])
-unfolding written spaced after
+unfolding ended spaced after
 head-bytes key p = simp (append-nil, append-assoc)
 
 pub entry-bytes : (w a b c : Word) → w ++ ((32 ∷ a) ++ ((32 ∷ b) ++ ((32 ∷ c) ++ (10 ∷ [])))) ≡ written ((w ∷ a ∷ b ∷ c ∷ []) ∷ [])
-unfolding written spaced after
+unfolding ended spaced after
 entry-bytes w a b c = simp (append-nil, append-assoc)
 
 -- ---- a number
@@ -68,9 +69,7 @@ unfolding entryLine entryNamed
 entry-end w l h q =
     let line = lowered w ∷ printed (sixed (numberOf (nth l 1))) ∷ printed (sixed (numberOf (nth l 2))) ∷ printed (sixed (numberOf (nth l 3))) ∷ [] in
     let m : length (spaced line) ≤ 58 = numbers-short (lowered w) (numberOf (nth l 1)) (numberOf (nth l 2)) (numberOf (nth l 3)) (omega (arith, length-lowered w)) in
-    let z : length (written (line ∷ [])) ≡ suc (length (spaced line) + length (written [])) = written-long line [] in
-    let o : length (written []) ≡ 0 = unfold written in refl in
-    omega (arith, q .next)
+    omega (arith, q .next, ended-one (spaced line))
 
 either-short : (t : Bool) (v w : Word) → length v ≤ 16 → length w ≤ 16 → length (cond t v w) ≤ 16
 either-short true v w h k = h
@@ -107,7 +106,7 @@ module _ (s starts : List ℕ) (from n i : ℕ) (name : Word) (room : from + n �
       (λ (q : j ≡ i → ⊥). rw (ne-eqb j i q, renamed-other (map entryOf (held s starts from n)) i j (lowered name) (entryOf []) q, own j h, e))
 
   pub entries-start : (l : List ℕ) (at : ℕ) → Wrote l l at at (written (map entryLine (take 0 es)))
-  unfolding written
+  unfolding ended
   entries-start l at = wrote-none l at
 
   module _ {a b c : List ℕ} {at e k : ℕ} (j : ℕ) (l : List ℕ) (h : j < n) (el : l ≡ lineAt s (getD starts (from + j) 0)) (p : Wrote a b at e (written (map entryLine (take j es)))) (q : Wrote b c e k (written (entryLine (entryNamed (cond (eqb j i) name (nth (words l) 0)) (words l)) ∷ []))) where

@@ -6,11 +6,10 @@ use lib.ListN.{length}
 use Rattle.verdict.specs.declared.Answer.{Answer}
 use Rattle.verdict.specs.declared.Form.{Form}
 use Rattle.verdict.specs.Output.{formMemory}
-use Rattle.verdict.proofs.Output.{form-refused}
+use Rattle.verdict.proofs.Output.{form-refused, Answers}
 use Rattle.text.specs.Reading.{Word}
 use Rattle.layoutform.specs.Form.{partsOf, formText}
 use Rattle.layoutform.specs.Rewrite.{renamedForm, rewriteVerdict, renameVerdict}
-use Rattle.verdict.proofs.Output.{Answers}
 
 -- a refused rewriting, with a name or without, leaves the output as it was
 pub rewrite-kept : (s o : List ℕ) → (rewriteVerdict s (length o) .number ≡ 0 → ⊥) → formMemory (rewriteVerdict s (length o)) (formText (partsOf s)) o ≡ o

@@ -27,7 +27,8 @@ use Rattle.layoutform.specs.Form.{Entry, partsOf, partsOfTyped, sixedPar
 use Rattle.layout.specs.Grammar.{knownBut}
 use Rattle.rooms.specs.Rooms.{roomNames, nameVerdict}
 use Rattle.layoutform.specs.Rewrite.{renamedAt, renamed, renameVerdict}
-use Rattle.layout.proofs.EachLaws.{Each, Apart}
+use Rattle.verdict.proofs.Each.{Each}
+use Rattle.layout.proofs.ApartLaws.{Apart}
 use Rattle.layoutform.proofs.PartLaws.{partNames, GoodEntry, GoodParts, parts-good, names-lowered}
 use Rattle.layoutform.proofs.FormTrip.{good-accepted, good-again, sixed-form}
 

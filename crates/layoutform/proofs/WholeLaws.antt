@@ -1,14 +1,15 @@
 -- The whole form as the printers write it. Assumes nothing.
 use mathlib.Core.Path.{_≡_, refl, sym, ap, _∙_}
 use mathlib.Core.List.{List, [], _∷_, _++_, map, append-nil}
-use Prim.Native.Nat.{ℕ, suc, _+_, _≤_, _<_}
+use Prim.Native.Nat.{ℕ, _+_, _≤_, _<_}
 use native.Mathlib.Omega.{arith}
 use lib.ListN.{length, length-map}
 use Rattle.letters.specs.Case.{lowered}
 use Rattle.number.specs.Number.{plain}
 use Rattle.printer.specs.Write.{Wrote}
 use Rattle.text.specs.Written.{spaced, after, written}
-use Rattle.printer.proofs.WriteLaws.{wrote-then}
+use Rattle.text.proofs.WrittenLaws.{ended-one, written-append}
+use Rattle.printer.proofs.WriteLaws.{wrote-then, wrote-is}
 use Rattle.layout.specs.declared.Layout.{Layout}
 use Rattle.text.specs.Reading.{Word, Line}
 use Rattle.layout.specs.Grammar.{beginlayout, roomcount, trackcount, obstaclecount, doorhookcount, donelayout}
@@ -16,29 +17,24 @@ use Rattle.layout.specs.Layout.{layoutOf}
 use Rattle.layoutform.specs.Form.{Entry, entryOf, partsOfTyped, partsOf, section, form, formText}
 use Rattle.layoutform.specs.Rewrite.{renamedAt, renamed, renamedForm}
 use Rattle.layout.specs.Starts.{held, NamedFrom, Held}
-use Rattle.layout.proofs.EachLaws.{Each, each-at}
+use Rattle.verdict.proofs.Each.{Each, each-at}
 use Rattle.layout.specs.Plain.{IsEntry}
 use Rattle.layout.proofs.ReadLaws.{layout-good}
 use Rattle.layout.proofs.HeldLaws.{held-long, held-at}
-use Rattle.layoutform.proofs.LengthLaws.{written-append, written-long, head-short}
+use Rattle.layoutform.proofs.LengthLaws.{head-short}
 use Rattle.layoutform.proofs.RenameLaws.{renamed-past}
-use Rattle.printer.proofs.WriteLaws.{wrote-is}
 
 -- ---- how far a line comes
 
-written-one : (l : Line) → length (written (l ∷ [])) ≡ suc (length (spaced l))
-unfolding written
-written-one l = written-long l [] ∙ omega arith
-
 pub head-end : {a b : List ℕ} {i j : ℕ} (key : Word) (n : ℕ) → length key ≤ 13 → Wrote a b i j (written ((key ∷ plain n ∷ []) ∷ [])) → j ≤ i + 20
-head-end key n h w = omega (arith, w .next, written-one (key ∷ plain n ∷ []), head-short key n)
+head-end key n h w = omega (arith, w .next, ended-one (spaced (key ∷ plain n ∷ [])), head-short key n)
 
 key-long : (key : Word) → length (spaced (key ∷ [])) ≡ length key
 unfolding spaced after
 key-long key = ap length (append-nil key)
 
 pub key-end : {a b : List ℕ} {i j : ℕ} (key : Word) → length key ≤ 13 → Wrote a b i j (written ((key ∷ []) ∷ [])) → j ≤ i + 14
-key-end key h w = omega (arith, w .next, written-one (key ∷ []), key-long key)
+key-end key h w = omega (arith, w .next, ended-one (spaced (key ∷ [])), key-long key)
 
 -- ---- the entries that the code keeps have names
 

@@ -23,9 +23,13 @@ pub record LayoutParts : Type 0 where
   pub tracks : List Entry
   pub obstacles : List Entry
 
--- an entry's parts
+-- an entry's parts, with whichever name and with its own
+unfoldable pub entryNamed : Word → Line → Entry
+entryNamed w l = record { name = lowered w; x = numberOf (nth l 1); y = numberOf (nth l 2); z = numberOf (nth l 3) }
+
 unfoldable pub entryOf : Line → Entry
-entryOf l = record { name = lowered (nth l 0); x = numberOf (nth l 1); y = numberOf (nth l 2); z = numberOf (nth l 3) }
+unfolding entryNamed
+entryOf l = entryNamed (nth l 0) l
 
 -- the parts of entries
 unfoldable pub partsOfTyped : Typed → LayoutParts

@@ -4,16 +4,11 @@ use mathlib.Core.List.{List, [], _∷_}
 use Rattle.verdict.specs.declared.Answer.{Answer}
 use Rattle.verdict.specs.Verdict.{_then_}
 use Rattle.letters.specs.Case.{lowered}
-use Rattle.text.specs.Reading.{Word, Line, nth}
+use Rattle.text.specs.Reading.{Word}
 use Rattle.text.specs.Written.{rule40}
-use Rattle.number.specs.Number.{numberOf}
 use Rattle.layout.specs.Layout.{layoutVerdict}
 use Rattle.rooms.specs.Rooms.{nameVerdict}
 use Rattle.layoutform.specs.Form.{Entry, LayoutParts, partsOf, formText}
-
--- the parts of an entry's line with another name
-unfoldable pub entryNamed : Word → Line → Entry
-entryNamed w l = record { name = lowered w; x = numberOf (nth l 1); y = numberOf (nth l 2); z = numberOf (nth l 3) }
 
 -- entry i with another name
 unfoldable pub renamedAt : List Entry → ℕ → Word → List Entry

@@ -18,8 +18,8 @@ ghost use Rattle.text.specs.Written.{written, rule40};
 ghost use Rattle.text.specs.Reading.{nth};
 ghost use Rattle.layout.specs.Layout.{layoutOf};
 ghost use Rattle.layout.specs.Starts.{held, NamedFrom, Held};
-ghost use Rattle.layoutform.specs.Form.{entryOf, entryLine, section};
-ghost use Rattle.layoutform.specs.Rewrite.{entryNamed, renamedAt, renamedForm};
+ghost use Rattle.layoutform.specs.Form.{entryNamed, entryOf, entryLine, section};
+ghost use Rattle.layoutform.specs.Rewrite.{renamedAt, renamedForm};
 
 // A space, and number k of a line with six digits after the point.
 pub(crate) fn put_coordinate(out: &mut [u8], at: usize, l: &[u8], k: usize) -> usize

@@ -13,7 +13,7 @@ use Rattle.verdict.proofs.Bools.{and-true, or-false}
 use Rattle.letters.specs.Class.{within, classOf, isRefused, isGap, isEnd, nameByte, wordByte, isReturn}
 
 -- the table of the code
-abbrev pub classes : List ℕ
+unfoldable pub classes : List ℕ
 classes =
     0 ∷ 0 ∷ 0 ∷ 0 ∷ 0 ∷ 0 ∷ 0 ∷ 0 ∷ 0 ∷ 6 ∷ 7 ∷ 0 ∷ 0 ∷ 8 ∷ 0 ∷ 0 ∷ 0 ∷ 0 ∷ 0 ∷ 0 ∷ 0 ∷ 0 ∷ 0 ∷ 0 ∷ 0 ∷ 0 ∷ 0 ∷ 0 ∷ 0 ∷ 0 ∷ 0 ∷ 0 ∷
     6 ∷ 0 ∷ 0 ∷ 0 ∷ 0 ∷ 0 ∷ 0 ∷ 0 ∷ 0 ∷ 0 ∷ 0 ∷ 0 ∷ 0 ∷ 4 ∷ 5 ∷ 0 ∷ 2 ∷ 2 ∷ 2 ∷ 2 ∷ 2 ∷ 2 ∷ 2 ∷ 2 ∷ 2 ∷ 2 ∷ 0 ∷ 0 ∷ 0 ∷ 0 ∷ 0 ∷ 0 ∷
@@ -29,7 +29,7 @@ agrees : ℕ → Bool
 agrees b = eqb (getD classes b 0) (classOf b)
 
 all-agree : allUnder 256 agrees ≡ true
-unfolding agrees classOf allUnder anyUnder lowest
+unfolding agrees classes classOf allUnder anyUnder lowest
 all-agree = refl
 
 pub class-at : (b : ℕ) → b < 256 → getD classes b 0 ≡ classOf b

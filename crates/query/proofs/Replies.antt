@@ -1,23 +1,23 @@
 -- Laws of the answer, case by case, and of the query's verdict by its groups. Assumes nothing.
 use mathlib.Core.Path.{_≡_, sym, ap, _∙_}
 use mathlib.Core.Bool.{true, false, not, _&&_}
-use mathlib.Core.List.{List}
+use mathlib.Core.List.{List, [], _∷_}
 use Prim.Native.Nat.{ℕ, _≤_, _<_}
 use native.Mathlib.Omega.{arith}
 use lib.IntN.{ℤ}
 use borrow.Author.Tests.{lt-ltb, le-ltb, ne-eqb, not-false}
-use Rattle.verdict.specs.Verdict.{accepted, _then_}
+use Rattle.verdict.specs.Verdict.{accepted, _then_, inOrder}
 use Rattle.verdict.specs.declared.Answer.{Answer}
 use Rattle.verdict.proofs.Bools.{and-true}
-use Rattle.verdict.proofs.Verdict.{then-assoc, then-next, then-stop, passed, unbroken, each-met, Proper, rule-proper, each-proper, then-proper}
+use Rattle.verdict.proofs.Verdict.{then-next, then-stop, then-last, passed, unbroken, each-met, Proper, rule-proper, each-proper, then-proper, order-append}
 use Rattle.wire.specs.Signed.{Within}
 use Rattle.grid.specs.Grid.{within}
 use Rattle.grid.proofs.Answers.{within-bound}
 use Rattle.tables.specs.Parts.{Parts, partsOf}
-use Rattle.floor.specs.Reader.{readerVerdict}
+use Rattle.floor.specs.Reader.{readerRules, readerVerdict}
 use Rattle.floor.specs.Accepted.{Accepted}
 use Rattle.query.specs.declared.Point.{Point}
-use Rattle.query.specs.Rules.{rule29, rule30, offGrid, queryVerdict}
+use Rattle.query.specs.Rules.{rule29, rule30, offGrid, queryRules, queryVerdict}
 use Rattle.query.specs.Points.{lowestFace, visitedNodes, replyOf, pointOf, pointAnswer, Ready}
 
 -- a refusal gives its number and place, and 0s
@@ -41,9 +41,19 @@ on-none face faces visited l = rw (le-ltb face faces l)
 abbrev pub rules29to30 : Parts → ℤ → ℤ → Answer
 rules29to30 p x y = rule29 x y then rule30 p
 
+last-proper : (p : Parts) → Proper (rule30 p)
+unfolding rule30
+last-proper p = each-proper 29 (p .vertices) (offGrid p) (λ v. v)
+
+last-two : (p : Parts) (x y : ℤ) → inOrder (rule29 x y ∷ rule30 p ∷ []) ≡ rules29to30 p x y
+unfolding inOrder
+last-two p x y = ap (λ (r : Answer). rule29 x y then r) (then-last (rule30 p) (last-proper p))
+
 pub by-groups : (b : List ℕ) (room : ℕ) (x y : ℤ) → queryVerdict b room x y ≡ (readerVerdict b room then rules29to30 (partsOf b) x y)
-unfolding queryVerdict
-by-groups b room x y = then-assoc (readerVerdict b room) (rule29 x y) (rule30 (partsOf b))
+unfolding queryVerdict queryRules readerVerdict
+by-groups b room x y =
+    order-append (readerRules b room) (rule29 x y ∷ rule30 (partsOf b) ∷ [])
+    ∙ ap (λ (r : Answer). inOrder (readerRules b room) then r) (last-two (partsOf b) x y)
 
 -- a refusal, whatever lies behind it
 refusals : (a : Answer) → 0 < a .number → (face faces visited : ℕ) → replyOf a 0 0 0 ≡ replyOf a face faces visited

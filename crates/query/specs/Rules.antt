@@ -3,12 +3,12 @@ use Prim.Native.Nat.{ℕ}
 use mathlib.Core.Bool.{Bool, not, _&&_}
 use mathlib.Core.List.{List, [], _∷_, _++_}
 use lib.IntN.{ℤ}
-use Rattle.verdict.specs.Verdict.{rule, ruleOfEach, _then_}
+use Rattle.verdict.specs.Verdict.{rule, ruleOfEach, inOrder}
 use Rattle.verdict.specs.declared.Answer.{Answer}
 use Rattle.grid.specs.Grid.{onGrid, within}
 use Rattle.tables.specs.Parts.{Parts, partsOf}
 use Rattle.tree.specs.Boxes.{vertexFloat}
-use Rattle.floor.specs.Reader.{readerVerdict, readerRules}
+use Rattle.floor.specs.Reader.{readerRules}
 
 -- 29: x or y beyond ±65,536 (in sixty-fourths)
 unfoldable pub rule29 : ℤ → ℤ → Answer
@@ -23,9 +23,8 @@ unfoldable pub rule30 : Parts → Answer
 rule30 p = ruleOfEach 30 (p .vertices) (offGrid p) (λ v. v)
 
 -- the query's refusals, in order: the reader's, then 29, then 30
-unfoldable pub queryVerdict : List ℕ → ℕ → ℤ → ℤ → Answer
-queryVerdict b room x y = readerVerdict b room then rule29 x y then rule30 (partsOf b)
-
--- the same rules as a list, for the theorem that the verdict is the first broken one in order
 unfoldable pub queryRules : List ℕ → ℕ → ℤ → ℤ → List Answer
 queryRules b room x y = readerRules b room ++ (rule29 x y ∷ rule30 (partsOf b) ∷ [])
+
+unfoldable pub queryVerdict : List ℕ → ℕ → ℤ → ℤ → Answer
+queryVerdict b room x y = inOrder (queryRules b room x y)

@@ -14,12 +14,11 @@ use Rattle.names.specs.Name.{isName}
 use Rattle.layout.specs.declared.Layout.{Layout}
 use Rattle.rooms.specs.declared.Rooms.{Rooms}
 use Rattle.text.specs.Reading.{Word, nth}
-use Rattle.layout.specs.Grammar.{namesOf}
+use Rattle.layout.specs.Grammar.{namesOf, knownBut}
 use Rattle.layout.specs.Layout.{layoutVerdict, layoutOf}
-use Rattle.layout.specs.Grammar.{knownBut}
 use Rattle.rooms.specs.Rooms.{roomNames, roomsOf, nameVerdict}
 use Rattle.layout.specs.Starts.{held, Named, keptName, Answered}
-use Rattle.layout.proofs.EachLaws.{length-names}
+use Rattle.layout.proofs.ApartLaws.{length-names}
 use Rattle.layout.proofs.ReadLaws.{layout-good, verdict-proper}
 use Rattle.layout.proofs.HeldLaws.{held-long, rooms-named}
 

@@ -19,7 +19,8 @@ use Rattle.text.proofs.ReadingLaws.{read-end}
 use Rattle.text.proofs.AcceptLaws as accept
 use Rattle.text.proofs.AcceptLaws.{Steady}
 use Rattle.number.specs.Count.{value, isCount}
-use Rattle.layout.proofs.EachLaws.{Each, Apart}
+use Rattle.verdict.proofs.Each.{Each}
+use Rattle.layout.proofs.ApartLaws.{Apart}
 use Rattle.layout.proofs.Accepts.{Full}
 use Rattle.sight.specs.Rows.{sees, withMark}
 use Rattle.sight.specs.Grammar.{State, Reading, roomOf, roomFault, seenFault, observerFault, lineFault, movedTo, rowsBehind, fault, next, finish, sightGrammar}

@@ -12,10 +12,9 @@ use Rattle.verdict.proofs.Lowest.{lowest-hit, lowest-all, lowest-done}
 use Rattle.names.specs.Name.{isName, sameName}
 use Rattle.text.specs.Reading.{Word}
 use Rattle.names.proofs.NameLaws.{same-name-name, name-long}
-use Rattle.layout.specs.Starts.{Named, keptName}
-use Rattle.layout.proofs.EachLaws.{length-names}
+use Rattle.layout.specs.Starts.{Named, keptName, held}
+use Rattle.layout.proofs.ApartLaws.{length-names}
 use Rattle.layout.proofs.HeldLaws.{held-long, room-name}
-use Rattle.layout.specs.Starts.{held}
 use Rattle.sight.specs.Grammar.{roomOf}
 use Rattle.sight.specs.Code.{keptNames}
 

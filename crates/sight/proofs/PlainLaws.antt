@@ -17,7 +17,8 @@ use Rattle.text.specs.Written.{wordLines}
 use Rattle.text.specs.Reading.{Word, Line, spoken}
 use Rattle.layout.specs.Layout.{layoutVerdict}
 use Rattle.rooms.specs.Rooms.{roomNames}
-use Rattle.layout.proofs.EachLaws.{Each, Apart}
+use Rattle.verdict.proofs.Each.{Each}
+use Rattle.layout.proofs.ApartLaws.{Apart}
 use Rattle.layout.proofs.Accepts.{Full, spoken-full}
 use Rattle.sight.specs.Rows.{sees, withMark, noRows}
 use Rattle.sight.specs.Grammar.{Reading, start}

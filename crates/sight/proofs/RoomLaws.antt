@@ -10,7 +10,7 @@ use Rattle.letters.specs.Case.{lowered}
 use Rattle.names.specs.Name.{sameName}
 use Rattle.names.proofs.NameLaws.{same-refl}
 use Rattle.text.specs.Reading.{Word}
-use Rattle.layout.proofs.EachLaws.{Apart}
+use Rattle.layout.proofs.ApartLaws.{Apart}
 use Rattle.sight.specs.Grammar.{roomOf}
 
 pub room-within : (names : List Word) (w : Word) → roomOf names w ≤ length names

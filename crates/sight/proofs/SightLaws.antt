@@ -16,7 +16,8 @@ use Rattle.names.specs.Name.{isName}
 use Rattle.text.specs.Sound.{rules31to32}
 use Rattle.layout.specs.Layout.{layoutVerdict, layoutOf}
 use Rattle.rooms.specs.Rooms.{roomNames}
-use Rattle.layout.proofs.EachLaws.{Apart, each-at, length-names, names-at}
+use Rattle.verdict.proofs.Each.{each-at}
+use Rattle.layout.proofs.ApartLaws.{Apart, length-names, names-at}
 use Rattle.layout.specs.Plain.{IsEntry}
 use Rattle.layout.proofs.ReadLaws.{layout-good, sound-proper, verdict-proper}
 use Rattle.sight.specs.Rows.{noRows}

@@ -1,42 +1,32 @@
 -- What the printers write, put together, and how far they come. Assumes nothing.
-use mathlib.Core.Path.{_≡_, refl, sym, ap, _∙_}
+use mathlib.Core.Path.{_≡_, refl, sym, _∙_}
 use mathlib.Core.Bool.{Bool, true, false, cond}
 use mathlib.Core.List.{List, [], _∷_, _++_, map, map-append, append-assoc, append-nil}
-use Prim.Native.Nat.{ℕ, suc, _+_, _≤_, _<_}
+use Prim.Native.Nat.{ℕ, _+_, _≤_, _<_}
 use native.Mathlib.Numerals.{add-one}
 use native.Mathlib.Omega.{arith}
 use native.Mathlib.Decide.{ℕ-discrete}
 use lib.Count.{ones}
-use lib.Dec.{eqb, ltb}
+use lib.Dec.{eqb}
 use lib.ListN.{length, getD, length-map, length-set, length-append}
 use lib.Seq.{getD-set-same, getD-set-other}
-use borrow.Author.Tests.{eq-eqb, ne-eqb, lt-ltb}
-use Rattle.verdict.proofs.Bools.{test, decided}
+use borrow.Author.Tests.{eq-eqb, ne-eqb}
+use Rattle.verdict.proofs.Bools.{decided}
 use Rattle.verdict.proofs.Lists.{map-at}
 use Rattle.letters.specs.Case.{lowered}
 use Rattle.number.specs.Number.{plain}
 use Rattle.printer.specs.Write.{Wrote}
-use Rattle.text.specs.Written.{spaced, after}
+use Rattle.text.specs.Written.{spaced, after, ended}
+use Rattle.text.proofs.WrittenLaws.{ended-append}
 use Rattle.text.specs.Reading.{Word}
 use Rattle.letters.proofs.CaseLaws.{length-lowered}
-use Rattle.printer.proofs.WriteLaws.{wrote-none, wrote-then, dry-run}
+use Rattle.printer.proofs.WriteLaws.{wrote-none, wrote-then, wrote-is}
 use Rattle.layout.specs.Starts.{keptName}
-use Rattle.printer.proofs.WriteLaws.{wrote-is}
 use Rattle.sight.specs.Rows.{sees}
-use Rattle.sightform.specs.Form.{seenTo, seenLine, roomLines, linesTo, ended, sightText}
+use Rattle.sightform.specs.Form.{seenTo, seenLine, roomLines, linesTo, sightText}
 use Rattle.sightform.specs.Code.{printedNames}
 use Rattle.sight.specs.Code.{keptNames}
 use Rattle.sight.proofs.FindLaws.{names-long, kept-is}
-
--- lines one after the other
-pub ended-append : (a b : List (List ℕ)) → ended (a ++ b) ≡ ended a ++ ended b
-unfolding ended
-ended-append [] b = refl
-ended-append (l ∷ a) b = rw (ended-append a b) (sym (append-assoc l (10 ∷ ended a) (ended b)))
-
-ended-one : (l : List ℕ) → length (ended (l ∷ [])) ≡ suc (length l)
-unfolding ended
-ended-one l = length-append l (10 ∷ []) ∙ omega arith
 
 -- ---- a seen room
 

@@ -12,12 +12,11 @@ use Rattle.letters.specs.Case.{lowered}
 use Rattle.text.specs.Reading.{Word, Line, nth, readLines}
 use Rattle.text.specs.Written.{wordLines}
 use Rattle.names.proofs.NameLaws.{same-name-lowered, same-name-sym}
-use Rattle.layout.specs.Grammar.{Typed, namesOf}
+use Rattle.layout.specs.Grammar.{Typed, namesOf, knownBut}
 use Rattle.layoutform.specs.Form.{Entry, LayoutParts, partsOf, formText}
 use Rattle.layoutform.specs.Rewrite.{renamed}
 use Rattle.rooms.specs.Rooms.{roomNames}
-use Rattle.layout.specs.Grammar.{knownBut}
-use Rattle.layout.proofs.EachLaws.{Each}
+use Rattle.verdict.proofs.Each.{Each}
 use Rattle.layoutform.proofs.PartLaws.{partNames, GoodEntry, GoodParts, parts-good, line-names}
 use Rattle.layoutform.proofs.FormLaws.{formTyped}
 use Rattle.layoutform.proofs.FormTrip.{good-typed-again}

@@ -25,7 +25,7 @@ use Rattle.names.proofs.WordLaws.{name-plain, name-word}
 use Rattle.number.proofs.WordLaws.{count-plain}
 use Rattle.text.proofs.WrittenLaws.{words-spaced, words-space}
 use Rattle.text.specs.Reading.{Word, Line, readLines}
-use Rattle.layout.proofs.EachLaws.{Apart}
+use Rattle.layout.proofs.ApartLaws.{Apart}
 use Rattle.sight.specs.Rows.{sees, withMark, noRows}
 use Rattle.sight.specs.Grammar.{roomOf, roomFault, seenFault, observerFault, lineFault, movedTo, rowsBehind, State, start, finish, fault, next, sightGrammar}
 use Rattle.sightform.specs.Form.{seenTo, seenLine, roomLines, linesTo}

@@ -1,7 +1,7 @@
 -- The fixed form's text of right rows is accepted against its layout and read as the same rows, where it is not too long. Assumes nothing.
 use mathlib.Core.Path.{_≡_, ap, _∙_}
 use mathlib.Core.Bool.{Bool, true, false, cond}
-use mathlib.Core.List.{List, [], _∷_, _++_, map, map-append}
+use mathlib.Core.List.{List, [], _∷_, map, map-append}
 use Prim.Native.Nat.{ℕ, zero, suc, _≤_, _<_}
 use native.Mathlib.Omega.{arith}
 use lib.Count.{ones}
@@ -17,55 +17,30 @@ use Rattle.letters.specs.Class.{isEnd, wordByte}
 use Rattle.names.specs.Name.{isName}
 use Rattle.letters.specs.Case.{lowered}
 use Rattle.number.specs.Number.{plain}
-use Rattle.text.specs.Scan.{run, apart, words}
+use Rattle.text.specs.Scan.{apart}
 use Rattle.text.specs.Sound.{rules31to32}
-use Rattle.text.specs.Written.{spaced, wordLines}
+use Rattle.text.specs.Written.{spaced, rule40}
 use Rattle.letters.proofs.ClassLaws.{calm, word-calm}
 use Rattle.names.proofs.NameLaws.{name-lowered}
 use Rattle.letters.proofs.CaseLaws.{lowered-again}
-use Rattle.text.proofs.RunLaws.{run-nil, all-from}
-use Rattle.text.proofs.SoundLaws.{calm-sound}
+use Rattle.text.proofs.RunLaws.{All, all-from}
 use Rattle.names.proofs.WordLaws.{name-plain}
 use Rattle.number.proofs.WordLaws.{count-plain}
-use Rattle.text.proofs.WrittenLaws.{plain-inline, inline-spaced, calm-spaced, inline-space, calm-space, lines-none, line-read, line-calm}
-use Rattle.text.specs.Reading.{Word, Line, readLines}
+use Rattle.text.proofs.WrittenLaws.{plain-inline, inline-spaced, calm-spaced, inline-space, calm-space, ended-read, ended-sound}
+use Rattle.text.specs.Reading.{Word, readLines}
 use Rattle.layout.specs.Layout.{layoutVerdict}
 use Rattle.rooms.specs.Rooms.{roomNames}
-use Rattle.text.specs.Written.{rule40}
-use Rattle.layout.proofs.EachLaws.{Each}
+use Rattle.verdict.proofs.Each.{Each, each-append}
 use Rattle.sight.specs.Rows.{sees}
 use Rattle.sight.specs.Grammar.{start, Reading, sightGrammar}
 use Rattle.sight.specs.Sight.{grammar, sightVerdict, rowsOf}
-use Rattle.sightform.specs.Form.{seenTo, seenLine, roomLines, linesTo, ended, sightText}
+use Rattle.sightform.specs.Form.{seenTo, seenLine, roomLines, linesTo, sightText}
 use Rattle.sightform.specs.Rewrite.{shownNames, rewrittenSight}
 use Rattle.sight.proofs.RowsGood.{GoodRows}
 use Rattle.sight.proofs.SightLaws.{few-names, names-apart, names-right, sight-sound, rows-sound}
 use Rattle.sightform.proofs.SightForm.{Shown, form-lines}
 
--- ---- lines, LF behind each
-
--- no byte of a line ends it, and none is refused or CR
-abbrev Inline : List ℕ → Type 0
-Inline l = run (apart isEnd) l ≡ length l
-
-abbrev Calm : List ℕ → Type 0
-Calm l = run calm l ≡ length l
-
-pub ended-read : (ls : List (List ℕ)) → Each Inline ls → wordLines (ended ls) ≡ map words ls
-unfolding ended
-ended-read [] h = lines-none
-ended-read (l ∷ ls) (p, h) = line-read l (ended ls) p ∙ ap (λ (r : List Line). words l ∷ r) (ended-read ls h)
-
-pub ended-calm : (ls : List (List ℕ)) → Each Calm ls → run calm (ended ls) ≡ length (ended ls)
-unfolding ended
-ended-calm [] h = run-nil calm
-ended-calm (l ∷ ls) (p, h) = line-calm l (ended ls) p (ended-calm ls h)
-
 -- ---- what holds of each line of the form
-
-each-append : {A : Type 0} (P : A → Type 0) (xs ys : List A) → Each P xs → Each P ys → Each P (xs ++ ys)
-each-append P [] ys h k = k
-each-append P (x ∷ xs) ys (p, h) k = (p, each-append P xs ys h k)
 
 module _ (P : List ℕ → Type 0) (head : (w : Word) (n : ℕ) → isName w ≡ true → P (spaced (w ∷ plain n ∷ []))) (seen : (w : Word) → isName w ≡ true → P (seenLine w)) (ms : List Word) (named : (j : ℕ) → j < length ms → isName (getD ms j []) ≡ true) where
   each-piece : (b : Bool) (w : Word) → isName w ≡ true → Each P (map seenLine (cond b (w ∷ []) []))
@@ -86,17 +61,17 @@ module _ (P : List ℕ → Type 0) (head : (w : Word) (n : ℕ) → isName w ≡
       each-append P (linesTo ms rows k) (roomLines ms k (getD rows k 0)) (each-line rows k (omega arith))
       (head (getD ms k []) (ones (getD rows k 0)) (named k l), each-seen (getD rows k 0) (length ms) (omega arith))
 
-head-inline : (w : Word) (n : ℕ) → isName w ≡ true → Inline (spaced (w ∷ plain n ∷ []))
+head-inline : (w : Word) (n : ℕ) → isName w ≡ true → All (apart isEnd) (spaced (w ∷ plain n ∷ []))
 head-inline w n e = inline-spaced (w ∷ plain n ∷ []) (name-plain w e, (count-plain n, tt))
 
-head-calm : (w : Word) (n : ℕ) → isName w ≡ true → Calm (spaced (w ∷ plain n ∷ []))
+head-calm : (w : Word) (n : ℕ) → isName w ≡ true → All calm (spaced (w ∷ plain n ∷ []))
 head-calm w n e = calm-spaced (w ∷ plain n ∷ []) (name-plain w e, (count-plain n, tt))
 
-seen-inline : (w : Word) → isName w ≡ true → Inline (seenLine w)
+seen-inline : (w : Word) → isName w ≡ true → All (apart isEnd) (seenLine w)
 unfolding seenLine
 seen-inline w e = inline-space (32 ∷ w) (inline-space w (plain-inline w (name-plain w e)))
 
-seen-calm : (w : Word) → isName w ≡ true → Calm (seenLine w)
+seen-calm : (w : Word) → isName w ≡ true → All calm (seenLine w)
 unfolding seenLine
 seen-calm w e = calm-space (32 ∷ w) (calm-space w (all-from calm wordByte word-calm w (name-plain w e .clean)))
 
@@ -110,13 +85,13 @@ module _ (ns ms : List Word) (sh : Shown ns ms) (rows : List ℕ) (g : GoodRows 
   pub form-grammar : grammar ns (sightText ms rows) ≡ record { verdict = accepted; rows = rows }
   unfolding grammar sightText
   form-grammar =
-      ap (readLines (sightGrammar ns) 0 start) (ended-read (linesTo ms rows (length ms)) (each-line Inline head-inline seen-inline ms form-names rows (length ms) (omega arith)))
+      ap (readLines (sightGrammar ns) 0 start) (ended-read (linesTo ms rows (length ms)) (each-line (All (apart isEnd)) head-inline seen-inline ms form-names rows (length ms) (omega arith)))
       ∙ form-lines ns ms sh rows g
 
   -- rules 31 and 32 accept it, where it is not too long
   pub form-sound : length (sightText ms rows) ≤ 65536 → rules31to32 (sightText ms rows) ≡ accepted
   unfolding sightText
-  form-sound h = calm-sound (ended (linesTo ms rows (length ms))) (ended-calm _ (each-line Calm head-calm seen-calm ms form-names rows (length ms) (omega arith))) h
+  form-sound h = ended-sound (linesTo ms rows (length ms)) (each-line (All calm) head-calm seen-calm ms form-names rows (length ms) (omega arith)) h
 
 -- ---- with the names of a layout
 

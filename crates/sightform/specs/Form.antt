@@ -4,7 +4,7 @@ use mathlib.Core.Bool.{cond}
 use mathlib.Core.List.{List, [], _∷_, _++_, map}
 use lib.Count.{ones}
 use lib.ListN.{length, getD}
-use Rattle.text.specs.Written.{spaced}
+use Rattle.text.specs.Written.{spaced, ended}
 use Rattle.text.specs.Reading.{Word}
 use Rattle.number.specs.Number.{plain}
 use Rattle.sight.specs.Rows.{sees}
@@ -26,11 +26,6 @@ roomLines names room row = spaced (getD names room [] ∷ plain (ones row) ∷ [
 unfoldable pub linesTo : List Word → List ℕ → ℕ → List (List ℕ)
 linesTo names rows zero = []
 linesTo names rows (suc k) = linesTo names rows k ++ roomLines names k (getD rows k 0)
-
--- lines, LF behind each
-unfoldable pub ended : List (List ℕ) → List ℕ
-ended [] = []
-ended (l ∷ ls) = l ++ 10 ∷ ended ls
 
 -- the bytes of the form
 unfoldable pub sightText : List Word → List ℕ → List ℕ

@@ -13,10 +13,10 @@ ghost use lib.Dec.{eqb};
 ghost use Rattle.verdict.specs.Output.{formAnswer, formMemory};
 ghost use Rattle.letters.specs.Case.{lowered};
 ghost use Rattle.printer.specs.Write.{Wrote};
-ghost use Rattle.text.specs.Written.{rule40};
+ghost use Rattle.text.specs.Written.{ended, rule40};
 ghost use Rattle.layout.specs.Starts.{Named, keptName};
 ghost use Rattle.sight.specs.Rows.{sees};
-ghost use Rattle.sightform.specs.Form.{seenTo, seenLine, roomLines, ended, sightText};
+ghost use Rattle.sightform.specs.Form.{seenTo, seenLine, roomLines, sightText};
 ghost use Rattle.sightform.specs.Code.{printedNames};
 
 // The name of room j in lower case, the typed one for room i.

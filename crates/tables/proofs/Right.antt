@@ -1,6 +1,6 @@
 -- When a header is right: rules 1 to 6 as plain facts, both ways; the first broken of them in order; and the few bytes that they
 -- depend on. Assumes nothing.
-use mathlib.Core.Path.{_≡_, refl, ap}
+use mathlib.Core.Path.{_≡_, refl}
 use mathlib.Core.Logic.{_≢_}
 use mathlib.Core.Bool.{true, false, not}
 use mathlib.Core.List.{List}
@@ -9,7 +9,7 @@ use native.Mathlib.Omega.{arith}
 use lib.Dec.{ltb, eqb}
 use lib.ListN.{length, getD}
 use borrow.Author.Tests.{le-ltb, eq-eqb, ltb-false, eqb-true, not-false}
-use Rattle.verdict.specs.Verdict.{rule, accepted, refused, inOrder, FirstBroken}
+use Rattle.verdict.specs.Verdict.{rule, accepted, refused, _then_, inOrder, FirstBroken}
 use Rattle.verdict.specs.declared.Answer.{Answer}
 use Rattle.verdict.proofs.Bools.{test, or-false, not-of-true}
 use Rattle.verdict.proofs.Lowest.{none-under, under-none, any-same}
@@ -17,7 +17,7 @@ use Rattle.verdict.proofs.Verdict.{passed, unbroken, met, each-met, each-passes
 use Rattle.wire.specs.Bytes.{u32At}
 use Rattle.wire.proofs.Numbers.{u32-same}
 use Rattle.tables.specs.Tables.{tableAt, entryAt, spanOf, In, outsideAt, shares, sharesEarlier, rule5, rule6}
-use Rattle.tables.specs.Header.{magic, floorTables, wrongLength, startsWrong, differs, limit, rule1, rule2, rule3, rule4, rules2to6, headerVerdict, headerRules, RightHeader}
+use Rattle.tables.specs.Header.{magic, floorTables, wrongLength, startsWrong, differs, limit, rule1, rule2, rule3, rule4, fieldRules, headerRules, headerVerdict, RightHeader}
 use Rattle.tables.specs.Plain.{Counts, SoundHeader}
 use Rattle.tables.proofs.Spans.{inside-of, inside-from, meet-of, entry-inside, tables-apart}
 use Rattle.tables.proofs.Floor.{floor-in-header}
@@ -79,51 +79,61 @@ met-counts b n =
     (met-limit b 128 12288 (n .perimeters))
 
 pub header-met : (b : List ℕ) → RightHeader b → Met b
-unfolding headerVerdict rules2to6 rule1 rule2 rule3 rule5 rule6
+unfolding headerVerdict headerRules fieldRules inOrder rule1 rule2 rule3 rule5 rule6
 header-met b z =
     let p1 = passed _ _ z in
-    let p6 = passed _ _ (p1 .1) in
-    let p5 = passed _ _ (p6 .0) in
-    let p4 = passed _ _ (p5 .0) in
-    let p3 = passed _ _ (p4 .0) in
+    let p2 = passed _ _ (p1 .1) in
+    let p3 = passed _ _ (p2 .1) in
+    let p4 = passed _ _ (p3 .1) in
+    let p5 = passed _ _ (p4 .1) in
+    let p6 = passed _ _ (p5 .1) in
     let n = length-met (length b) (unbroken 0 (wrongLength (length b)) 0 (p1 .0)) in
     record {
       long = n .0;
       short = n .1;
-      word = unbroken 1 (startsWrong magic b) 0 (p3 .0);
-      world = eqb-true (u32At b 8) 1 (not-false (eqb (u32At b 8) 1) (unbroken 2 (not (eqb (u32At b 8) 1)) 8 (p3 .1)));
-      counts = counts-met b (p4 .1);
-      inside = each-met 4 9 (outsideAt 136 floorTables b) _ (p5 .1);
-      apart = each-met 5 9 (sharesEarlier floorTables b) _ (p6 .1);
+      word = unbroken 1 (startsWrong magic b) 0 (p2 .0);
+      world = eqb-true (u32At b 8) 1 (not-false (eqb (u32At b 8) 1) (unbroken 2 (not (eqb (u32At b 8) 1)) 8 (p3 .0)));
+      counts = counts-met b (p4 .0);
+      inside = each-met 4 9 (outsideAt 136 floorTables b) _ (p5 .0);
+      apart = each-met 5 9 (sharesEarlier floorTables b) _ (p6 .0);
     }
 
 pub met-header : (b : List ℕ) → Met b → headerVerdict b ≡ accepted
-unfolding headerVerdict rules2to6 rule1 rule2 rule3 rule5 rule6
+unfolding headerVerdict headerRules fieldRules inOrder rule1 rule2 rule3 rule5 rule6
 met-header b f =
     then-both (rw (met-length (length b) (f .long) (f .short)) (met 1 0))
-    (then-both
-    (then-both
-    (then-both (then-both (rw (f .word) (met 2 0)) (rw (eq-eqb (u32At b 8) 1 (f .world)) (met 3 8))) (met-counts b (f .counts)))
-    (each-passes 5 9 (outsideAt 136 floorTables b) (λ k. tableAt floorTables k .offset) (f .inside)))
-    (each-passes 6 9 (sharesEarlier floorTables b) (λ k. tableAt floorTables k .offset) (f .apart)))
+    (then-both (rw (f .word) (met 2 0))
+    (then-both (rw (eq-eqb (u32At b 8) 1 (f .world)) (met 3 8))
+    (then-both (met-counts b (f .counts))
+    (then-both (each-passes 5 9 (outsideAt 136 floorTables b) (λ k. tableAt floorTables k .offset) (f .inside))
+    (then-both (each-passes 6 9 (sharesEarlier floorTables b) (λ k. tableAt floorTables k .offset) (f .apart)) refl)))))
 
 -- a file of a wrong length, and one that is long enough
 pub wrong-long : (b : List ℕ) → wrongLength (length b) ≡ true → headerVerdict b ≡ refused 1 0
-unfolding headerVerdict rule1 rule
-wrong-long b e = rw e (then-stop (refused 1 0) (λ z. omega arith) (rules2to6 b))
+unfolding headerVerdict headerRules inOrder rule1 rule
+wrong-long b e = rw e (then-stop (refused 1 0) (λ z. omega arith) (inOrder (fieldRules b)))
 
-pub right-long : (b : List ℕ) → wrongLength (length b) ≡ false → headerVerdict b ≡ rules2to6 b
-unfolding headerVerdict rule1 rule
-right-long b e = rw e (then-next accepted (rules2to6 b) refl)
+pub right-long : (b : List ℕ) → wrongLength (length b) ≡ false → headerVerdict b ≡ inOrder (fieldRules b)
+unfolding headerVerdict headerRules inOrder rule1 rule
+right-long b e = rw e (then-next accepted (inOrder (fieldRules b)) refl)
+
+-- rules 2 to 6, joined one after another
+last-proper : (b : List ℕ) → Proper (rule6 9 floorTables b)
+unfolding rule6
+last-proper b = each-proper 5 9 (sharesEarlier floorTables b) (λ k. tableAt floorTables k .offset)
+
+pub fields-joined : (b : List ℕ) → inOrder (fieldRules b) ≡ (rule2 b then rule3 b then rule4 b then rule5 136 9 floorTables b then rule6 9 floorTables b)
+unfolding fieldRules inOrder
+fields-joined b = simp (then-assoc, then-last (rule6 9 floorTables b) (last-proper b))
 
 -- the rules 5 and 6 of a right header, by their names
 pub rule5-met : (b : List ℕ) → RightHeader b → rule5 136 9 floorTables b .number ≡ 0
-unfolding headerVerdict rules2to6
-rule5-met b z = passed _ _ (passed _ _ (passed _ _ z .1) .0) .1
+unfolding headerVerdict headerRules fieldRules inOrder
+rule5-met b z = passed _ _ (passed _ _ (passed _ _ (passed _ _ (passed _ _ z .1) .1) .1) .1) .0
 
 pub rule6-met : (b : List ℕ) → RightHeader b → rule6 9 floorTables b .number ≡ 0
-unfolding headerVerdict rules2to6
-rule6-met b z = passed _ _ (passed _ _ z .1) .1
+unfolding headerVerdict headerRules fieldRules inOrder
+rule6-met b z = passed _ _ (passed _ _ (passed _ _ (passed _ _ (passed _ _ (passed _ _ z .1) .1) .1) .1) .1) .0
 
 -- every entry of every table lies in the file
 pub floor-entry : (b : List ℕ) → RightHeader b → (k : ℕ) → k < 9 → (i : ℕ) → i < u32At b (tableAt floorTables k .count)
@@ -186,16 +196,9 @@ sound-header b s =
 
 -- ---- the verdict is the first broken rule in order
 
-last-proper : (b : List ℕ) → Proper (rule6 9 floorTables b)
-unfolding rule6
-last-proper b = each-proper 5 9 (sharesEarlier floorTables b) (λ k. tableAt floorTables k .offset)
-
-in-order : (b : List ℕ) → headerVerdict b ≡ inOrder (headerRules b)
-unfolding headerVerdict rules2to6 headerRules inOrder
-in-order b = simp (then-assoc, then-last (rule6 9 floorTables b) (last-proper b))
-
 pub header-first : (b : List ℕ) → FirstBroken (headerRules b) (headerVerdict b)
-header-first b = rw (in-order b) (first-broken (headerRules b))
+unfolding headerVerdict
+header-first b = first-broken (headerRules b)
 
 -- two answers that rules 1 to 6 admit are equal
 pub header-only : (b : List ℕ) (a : Answer) → FirstBroken (headerRules b) a → a ≡ headerVerdict b
@@ -233,7 +236,7 @@ module _ (d b : List ℕ) (s : SameFields d b) where
   starts-same = any-same 8 _ _ (λ k l. rw (s .first k (omega arith)))
 
   pub verdict-same : headerVerdict d ≡ headerVerdict b
-  unfolding headerVerdict rules2to6 rule1 rule2 rule3 rule4 limit rule5 rule6
+  unfolding headerVerdict headerRules fieldRules inOrder rule1 rule2 rule3 rule4 limit rule5 rule6
   verdict-same =
       rw (
         s .size,

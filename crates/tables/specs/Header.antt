@@ -6,7 +6,7 @@ use mathlib.Core.List.{List, [], _∷_}
 use lib.ListN.{length, getD}
 use lib.Dec.{ltb, eqb}
 use Rattle.verdict.specs.Lowest.{anyUnder}
-use Rattle.verdict.specs.Verdict.{rule, _then_}
+use Rattle.verdict.specs.Verdict.{rule, _then_, inOrder}
 use Rattle.verdict.specs.declared.Answer.{Answer}
 use Rattle.wire.specs.Bytes.{u32At}
 use Rattle.tables.specs.Tables.{table, rule5, rule6}
@@ -57,16 +57,15 @@ rule4 b =
     limit b 120 12288 then limit b 128 12288
 
 -- the rules of the header's fields: what is asked of a file that is long enough to have a header
-unfoldable pub rules2to6 : List ℕ → Answer
-rules2to6 b = rule2 b then rule3 b then rule4 b then rule5 136 9 floorTables b then rule6 9 floorTables b
+unfoldable pub fieldRules : List ℕ → List Answer
+fieldRules b = rule2 b ∷ rule3 b ∷ rule4 b ∷ rule5 136 9 floorTables b ∷ rule6 9 floorTables b ∷ []
 
 -- rules 1 to 6
-unfoldable pub headerVerdict : List ℕ → Answer
-headerVerdict b = rule1 b then rules2to6 b
-
--- the same rules as a list, for the theorem that the verdict is the first broken one in order
 unfoldable pub headerRules : List ℕ → List Answer
-headerRules b = rule1 b ∷ rule2 b ∷ rule3 b ∷ rule4 b ∷ rule5 136 9 floorTables b ∷ rule6 9 floorTables b ∷ []
+headerRules b = rule1 b ∷ fieldRules b
+
+unfoldable pub headerVerdict : List ℕ → Answer
+headerVerdict b = inOrder (headerRules b)
 
 -- the file has a right header: what later rules and functions may go by
 abbrev pub RightHeader : List ℕ → Type 0

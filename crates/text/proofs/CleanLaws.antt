@@ -11,30 +11,18 @@ use lib.Dec.{eqb}
 use lib.ListN.{length, getD}
 use borrow.Author.Tests.{not-true}
 use Rattle.verdict.proofs.Bools.{clash, test}
+use Rattle.verdict.proofs.Each.{Each, each-or}
 use Rattle.letters.specs.Class.{classOf, isRefused, isBlank, isGap, isEnd, wordByte, isReturn}
-use Rattle.text.specs.Scan.{run, apart, grow, split, keep, nonempty, words, lines}
+use Rattle.text.specs.Scan.{apart, grow, split, keep, nonempty, words, lines}
 use Rattle.text.specs.Written.{wordLines}
 use Rattle.text.specs.Sound.{bare, rules31to32}
 use Rattle.letters.proofs.ClassLaws.{word-byte, nought-no-end}
-use Rattle.text.proofs.RunLaws.{run-nil, run-at, run-of, all-cons, all-first}
+use Rattle.text.proofs.RunLaws.{All, run-nil, run-at, run-of, all-cons, all-first}
 use Rattle.text.proofs.SplitLaws.{split-on, split-off, split-nil, words-nil}
 use Rattle.text.proofs.SoundLaws.{sound-known, sound-return}
 use Rattle.text.proofs.WrittenLaws.{AllPlain, AllLines}
 
 -- ---- a thing that holds of each piece
-
-abbrev pub Each : (List ℕ → Type 0) → List (List ℕ) → Type 0
-Each P [] = Unit
-Each P (w ∷ ws) = P w × Each P ws
-
-each-at : (P : List ℕ → Type 0) → P [] → (ws : List (List ℕ)) → Each P ws → (k : ℕ) → P (getD ws k [])
-each-at P o [] e k = o
-each-at P o (w ∷ ws) (p, e) zero = p
-each-at P o (w ∷ ws) (p, e) (suc k) = each-at P o ws e k
-
--- all bytes of a piece pass a test
-abbrev All : (ℕ → Bool) → List ℕ → Type 0
-All q w = run q w ≡ length w
 
 grow-each : (q : ℕ → Bool) (b : ℕ) (ws : List (List ℕ)) → q b ≡ true → Each (All q) ws → Each (All q) (grow b ws)
 unfolding grow
@@ -149,7 +137,7 @@ last-at (b ∷ l) (f, p) zero h e = rw (f e)
 last-at (b ∷ l) (f, p) (suc k) h e = let z = last-at l p k (omega arith) e in omega arith
 
 line-last : (s : List ℕ) → rules31to32 s .number ≡ 0 → (i : ℕ) → Last (getD (lines s) i [])
-line-last s z i = each-at Last tt (lines s) (lines-last s (before-of s (sound-return s z))) i
+line-last s z i = each-or Last [] tt (lines s) (lines-last s (before-of s (sound-return s z))) i
 
 -- once rules 31 and 32 accept, a CR in a line is its last byte
 pub return-last : (s : List ℕ) → rules31to32 s .number ≡ 0 → (i k : ℕ) → k < length (getD (lines s) i []) → isReturn (getD (getD (lines s) i []) k 0) ≡ true → k + 1 ≡ length (getD (lines s) i [])

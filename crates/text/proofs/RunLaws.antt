@@ -11,6 +11,10 @@ use lib.Seq.{drop-cons}
 use Rattle.verdict.proofs.Bools.{test}
 use Rattle.text.specs.Scan.{run}
 
+-- all bytes pass a test
+abbrev pub All : (ℕ → Bool) → List ℕ → Type 0
+All p w = run p w ≡ length w
+
 module _ (p : ℕ → Bool) where
   pub run-nil : run p [] ≡ 0
   unfolding run

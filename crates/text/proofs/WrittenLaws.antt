@@ -1,17 +1,18 @@
 -- What is written is read as the same lines of words, and rules 31 and 32 accept it where it is not too long. Assumes nothing.
 use mathlib.Core.Path.{_≡_, refl, sym, ap, _∙_}
 use mathlib.Core.Bool.{Bool, true, not}
-use mathlib.Core.List.{List, [], _∷_, _++_, map, append-nil}
-use Prim.Native.Nat.{ℕ, suc, _≤_, _<_}
+use mathlib.Core.List.{List, [], _∷_, _++_, map, map-append, append-nil, append-assoc}
+use Prim.Native.Nat.{ℕ, suc, _+_, _≤_, _<_}
 use native.Mathlib.Omega.{arith}
-use lib.ListN.{length}
+use lib.ListN.{length, length-append}
 use Rattle.verdict.specs.Verdict.{accepted}
+use Rattle.verdict.proofs.Each.{Each, each-map}
 use Rattle.letters.specs.Class.{classOf, isRefused, isReturn, isGap, isEnd, wordByte}
 use Rattle.text.specs.Scan.{run, apart, words, lines}
 use Rattle.text.specs.Sound.{rules31to32}
-use Rattle.text.specs.Written.{after, spaced, written, wordLines}
+use Rattle.text.specs.Written.{after, spaced, ended, written, wordLines}
 use Rattle.letters.proofs.ClassLaws.{calm, word-solid, word-inline, word-calm}
-use Rattle.text.proofs.RunLaws.{run-nil, run-cons-off, all-cons, all-append, all-from}
+use Rattle.text.proofs.RunLaws.{All, run-nil, run-cons-off, all-cons, all-append, all-from}
 use Rattle.text.proofs.SplitLaws.{split-join, split-last, split-nil, words-nil, words-gap, words-word}
 use Rattle.text.proofs.SoundLaws.{calm-sound}
 
@@ -21,12 +22,10 @@ pub record Plain (w : List ℕ) : Type 0 where
   pub clean : run wordByte w ≡ length w
 
 abbrev pub AllPlain : List (List ℕ) → Type 0
-AllPlain [] = Unit
-AllPlain (w ∷ ws) = Plain w × AllPlain ws
+AllPlain = Each Plain
 
 abbrev pub AllLines : List (List (List ℕ)) → Type 0
-AllLines [] = Unit
-AllLines (l ∷ ls) = AllPlain l × AllLines ls
+AllLines = Each AllPlain
 
 -- no byte of it is of a gap, or ends a line
 pub plain-solid : (w : List ℕ) → Plain w → run (apart isGap) w ≡ length w
@@ -129,19 +128,46 @@ line-read l s h = ap (map words) (split-join isEnd l 10 s h feed-end)
 pub line-calm : (l s : List ℕ) → run calm l ≡ length l → run calm s ≡ length s → run calm (l ++ 10 ∷ s) ≡ length (l ++ 10 ∷ s)
 line-calm l s h k = all-append calm l (10 ∷ s) h (all-cons calm 10 s feed-calm k)
 
+-- lines, LF behind each, are read as their words, and rules 31 and 32 accept them
+pub ended-read : (ls : List (List ℕ)) → Each (All (apart isEnd)) ls → wordLines (ended ls) ≡ map words ls
+unfolding ended
+ended-read [] h = lines-none
+ended-read (l ∷ ls) (p, h) = line-read l (ended ls) p ∙ ap (λ (r : List (List (List ℕ))). words l ∷ r) (ended-read ls h)
+
+ended-calm : (ls : List (List ℕ)) → Each (All calm) ls → All calm (ended ls)
+unfolding ended
+ended-calm [] h = run-nil calm
+ended-calm (l ∷ ls) (p, h) = line-calm l (ended ls) p (ended-calm ls h)
+
+pub ended-sound : (ls : List (List ℕ)) → Each (All calm) ls → length (ended ls) ≤ 65536 → rules31to32 (ended ls) ≡ accepted
+ended-sound ls p h = calm-sound (ended ls) (ended-calm ls p) h
+
+pub ended-append : (a b : List (List ℕ)) → ended (a ++ b) ≡ ended a ++ ended b
+unfolding ended
+ended-append [] b = refl
+ended-append (l ∷ a) b = rw (ended-append a b) (sym (append-assoc l (10 ∷ ended a) (ended b)))
+
+pub ended-long : (l : List ℕ) (ls : List (List ℕ)) → length (ended (l ∷ ls)) ≡ suc (length l + length (ended ls))
+unfolding ended
+ended-long l ls = length-append l (10 ∷ ended ls) ∙ omega arith
+
+pub ended-one : (l : List ℕ) → length (ended (l ∷ [])) ≡ suc (length l)
+unfolding ended
+ended-one l = ended-long l [] ∙ omega arith
+
+-- ---- lines of words
+
+words-again : (ls : List (List (List ℕ))) → AllLines ls → map words (map spaced ls) ≡ ls
+words-again [] p = refl
+words-again (l ∷ ls) (p, q) = rw (words-spaced l p, words-again ls q)
+
 -- the law: what is written is read as it was
 pub written-read : (ls : List (List (List ℕ))) → AllLines ls → wordLines (written ls) ≡ ls
-unfolding written
-written-read [] p = lines-none
-written-read (l ∷ ls) (p, q) =
-    line-read (spaced l) (written ls) (inline-spaced l p)
-    ∙ ap (λ (w : List (List ℕ)). w ∷ wordLines (written ls)) (words-spaced l p) ∙ ap (λ (w : List (List (List ℕ))). l ∷ w) (written-read ls q)
-
-pub written-calm : (ls : List (List (List ℕ))) → AllLines ls → run calm (written ls) ≡ length (written ls)
-unfolding written
-written-calm [] p = run-nil calm
-written-calm (l ∷ ls) (p, q) = line-calm (spaced l) (written ls) (calm-spaced l p) (written-calm ls q)
+written-read ls p = ended-read (map spaced ls) (each-map AllPlain (All (apart isEnd)) spaced inline-spaced ls p) ∙ words-again ls p
 
 -- and rules 31 and 32 accept it
 pub written-sound : (ls : List (List (List ℕ))) → AllLines ls → length (written ls) ≤ 65536 → rules31to32 (written ls) ≡ accepted
-written-sound ls p h = calm-sound (written ls) (written-calm ls p) h
+written-sound ls p h = ended-sound (map spaced ls) (each-map AllPlain (All calm) spaced calm-spaced ls p) h
+
+pub written-append : (a b : List (List (List ℕ))) → written (a ++ b) ≡ written a ++ written b
+written-append a b = ap ended (map-append spaced a b) ∙ ended-append (map spaced a) (map spaced b)

@@ -20,10 +20,13 @@ spaced [] = []
 spaced (w ∷ ws) = w ++ after ws
 
 -- lines, LF behind each
-unfoldable pub written : List (List (List ℕ)) → List ℕ
-unfolding spaced
-written [] = []
-written (ws ∷ ls) = spaced ws ++ 10 ∷ written ls
+unfoldable pub ended : List (List ℕ) → List ℕ
+ended [] = []
+ended (l ∷ ls) = l ++ 10 ∷ ended ls
+
+-- lines of words
+abbrev pub written : List (List (List ℕ)) → List ℕ
+written ls = ended (map spaced ls)
 
 -- a text as its lines of words
 unfoldable pub wordLines : List ℕ → List (List (List ℕ))

@@ -3,7 +3,6 @@ use mathlib.Core.Path.{_≡_, sym}
 use mathlib.Core.Logic.{_⊎_, inl, inr}
 use mathlib.Core.Bool.{Bool, true, false, not, cond}
 use Prim.Native.Nat.{ℕ, _≤_, _<_}
-use native.Mathlib.Omega.{arith}
 use lib.Ieee.{binary32, ofBits}
 use borrow.Author.Tests.{not-false}
 use Rattle.verdict.specs.Verdict.{accepted}
@@ -11,7 +10,7 @@ use Rattle.verdict.proofs.Bools.{and-true, true-and}
 use Rattle.verdict.proofs.Lowest.{all-true, true-all}
 use Rattle.verdict.proofs.Verdict.{each-met, each-passes}
 use Rattle.grid.specs.Grid.{finite}
-use Rattle.boxes.specs.Box.{FiniteBits, holdsBox}
+use Rattle.boxes.specs.Box.{holdsBox}
 use Rattle.boxes.specs.Plain.{HoldsBox, HoldsPoint}
 use Rattle.boxes.proofs.Boxes.{point-held, held-point, inner, inner-back}
 use Rattle.tables.specs.Parts.{Parts, vertexWord, corner, nodeWord}

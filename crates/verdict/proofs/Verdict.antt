@@ -1,7 +1,7 @@
 -- The laws of verdicts. Assumes nothing.
 use mathlib.Core.Path.{_≡_, refl, sym, _∙_, ap}
 use mathlib.Core.Bool.{Bool, true, false}
-use mathlib.Core.List.{List, [], _∷_}
+use mathlib.Core.List.{List, [], _∷_, _++_}
 use Prim.Native.Nat.{ℕ, zero, suc, _<_, _≤_}
 use native.Mathlib.Omega.{arith}
 use native.Mathlib.Decide.{ℕ-discrete, decLt}
@@ -104,6 +104,12 @@ then-proper a b p q = record { at-0 = λ z. let h = passed a b z in then-both (p
 -- nothing more to ask
 pub then-last : (a : Answer) → Proper a → (a then accepted) ≡ a
 then-last a p = decided (ℕ-discrete (a .number) 0) (λ z. then-next a accepted z ∙ sym (p .at-0 z)) (λ z. then-stop a z accepted)
+
+-- the verdicts of two lists one after the other
+pub order-append : (l m : List Answer) → inOrder (l ++ m) ≡ (inOrder l then inOrder m)
+unfolding inOrder
+order-append [] m = sym (then-next accepted (inOrder m) refl)
+order-append (a ∷ l) m = ap (λ (r : Answer). a then r) (order-append l m) ∙ sym (then-assoc a (inOrder l) (inOrder m))
 
 -- verdicts in order answer with the first broken rule ..
 pub first-broken : (rules : List Answer) → FirstBroken rules (inOrder rules)

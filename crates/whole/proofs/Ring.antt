@@ -7,8 +7,7 @@ use mathlib.Core.List.{List, [], _∷_}
 use Prim.Native.Nat.{ℕ}
 use lib.Dec.{T, leb, ltb, eqb, eqb→eq}
 use lib.ListN.{getD}
-use lib.IntN.{ℤ, pos, negsuc, negℤ, _+ℤ_, _-ℤ_, _*ℤ_}
-use lib.IntN.{+ℤ-idl, +ℤ-idr, +ℤ-assoc, zero-*ℤ, *ℤ-zero, negℤ-+ℤ}
+use lib.IntN.{ℤ, pos, negsuc, negℤ, _+ℤ_, _-ℤ_, _*ℤ_, +ℤ-idl, +ℤ-idr, +ℤ-assoc, zero-*ℤ, *ℤ-zero, negℤ-+ℤ}
 use Rattle.verdict.proofs.Bools.{clash, T-true, true-T, and-true}
 use Rattle.whole.proofs.Laws.{+ℤ-left-comm, *ℤ-+ℤ-right, *ℤ-+ℤ-left, negℤ-*ℤ, *ℤ-assoc, *ℤ-left-comm, *ℤ-cross, one-*ℤ, *ℤ-1, same-of-less}
 

@@ -1,4 +1,4 @@
-// Numbers of four bytes, little-endian, in a caller's bytes: read and put; and numbers in a wider type.
+// Numbers of four bytes, little-endian, in a caller's bytes: read and put; the word for none; and numbers in a wider type.
 ghost use mathlib.Core.Path.{_≡_};
 ghost use Prim.Native.Nat.{_+_, _≤_, _<_};
 ghost use lib.ListN.{length};

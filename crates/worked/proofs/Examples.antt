@@ -11,7 +11,7 @@ use lib.Ieee.{ofBits, toBits, round, le, lt, eq}
 use borrow.Author.Tests.{le-ltb, lt-ltb, ltb-true, eqb-true}
 use Rattle.verdict.specs.Lowest.{lowest, anyUnder, allUnder}
 use Rattle.verdict.specs.Lists.{times, tally, once}
-use Rattle.verdict.specs.Verdict.{rule, ruleOfEach, _then_, refused, accepted}
+use Rattle.verdict.specs.Verdict.{rule, ruleOfEach, _then_, inOrder, refused, accepted}
 use Rattle.verdict.specs.Memory.{workSize}
 use Rattle.verdict.specs.Output.{over, formAnswer, formMemory}
 use Rattle.verdict.proofs.Bools.{T-true, true-T, and-true}
@@ -22,7 +22,7 @@ use Rattle.grid.specs.Grid.{finite, onGrid, size64, scaled, gridFloat, mayNudge
 use Rattle.boxes.specs.Box.{between, noneOver, holdsPoint, holdsBox, holdsXY, boxOfBits}
 use Rattle.triangle.specs.Triangle.{inTriangle, sides, allLeft, allRight, cross}
 use Rattle.tables.specs.Tables.{rule5, rule6, outsideAt, outside, spanOf, shares, sharesEarlier}
-use Rattle.tables.specs.Header.{wrongLength, headerVerdict, rules2to6, startsWrong, differs, limit, rule1, rule2, rule3, rule4}
+use Rattle.tables.specs.Header.{wrongLength, fieldRules, headerRules, headerVerdict, startsWrong, differs, limit, rule1, rule2, rule3, rule4}
 use Rattle.tables.specs.Parts.{partsOf, tableWords, wordOf, wordPlace}
 use Rattle.tables.specs.Fixed.{startOf, formOf}
 use Rattle.tables.proofs.Right.{wrong-long}
@@ -35,7 +35,7 @@ use Rattle.tree.specs.Boxes.{boxOf, holdsCorner, holdsFace, holdsChildren, tooS
 use Rattle.pairs.specs.Halves.{from, to, runs, repeats, partner, border, pairing, wrongAdjacent, rule15, rule16}
 use Rattle.border.specs.Loops.{standsIn, wrongEdge, missing, rule17, wrongTransition, rule18, loopStart, after, openAt, openRun, wrongLoop, rule19}
 use Rattle.floor.specs.Groups.{rules1to19}
-use Rattle.floor.specs.Reader.{rule20, readerVerdict, walkableFaces, answerOf, readerAnswer}
+use Rattle.floor.specs.Reader.{rule20, partRules, readerRules, readerVerdict, walkableFaces, answerOf, readerAnswer}
 use Rattle.floor.specs.Rewrite.{fixedForm, rewriteVerdict, rewriteAnswer, rewriteMemory}
 use Rattle.floor.proofs.Order.{by-groups}
 use Rattle.record.specs.Record.{recordBytes}
@@ -44,7 +44,7 @@ use Rattle.laying.specs.Kind.{lay}
 use Rattle.laying.specs.Area.{areaCount, areaField}
 use Rattle.journal.specs.Step.{badSession, rule28, commonVerdict, unless, full, rule21, editRules, editVerdict, editStep}
 use Rattle.journal.specs.Calls.{step, run}
-use Rattle.query.specs.Rules.{rule29, rule30, offGrid, queryVerdict}
+use Rattle.query.specs.Rules.{rule29, rule30, offGrid, queryRules, queryVerdict}
 use Rattle.query.specs.Points.{cornerAt, faceHolds, boxHolds, lowestFace, visitedNodes, replyOf, pointOf, pointAnswer}
 use Rattle.worked.specs.Worked.{Deed, read, rewrite, pair, ask, call, nudge, told, gives, Case, Right, triangle, square, worked}
 
@@ -122,12 +122,12 @@ computed : T (tested worked)
 unfolding worked triangle square tested quick gives same
     bytesOf u32Bytes u32At wordsAt rule ruleOfEach _then_ lowest anyUnder allUnder times tally once
     rewriteAnswer rewriteMemory rewriteVerdict fixedForm formAnswer formMemory over formOf startOf joined
-    readerAnswer answerOf readerVerdict walkableFaces rule20 rule1 rule2 rule3 rule4 limit rule5 rule6 wrongLength startsWrong differs outsideAt outside spanOf shares sharesEarlier
+    readerAnswer answerOf readerVerdict readerRules partRules walkableFaces rule20 rule1 rule2 rule3 rule4 limit rule5 rule6 wrongLength startsWrong differs outsideAt outside spanOf shares sharesEarlier
     partsOf tableWords wordOf wordPlace rule7 rule7In wild wildHead wildIn finite ofBits rule8 wrongCorners wrongCorner rule9 strange rule10 misplaced walkable
     rule11 rule12 neither isLeaf isInner isPlane nodesOf rule13 oneTree deep ends leafFaces rule14 tooSmall holdsChildren holdsFace holdsCorner boxOf boxOfBits holdsPoint holdsBox between noneOver le lt eq
     rule15 rule16 repeats partner runs from to wrongAdjacent pairing border rule17 standsIn wrongEdge missing rule18 wrongTransition rule19 wrongLoop loopStart openRun openAt after
-    pointAnswer pointOf replyOf queryVerdict rule29 rule30 offGrid lowestFace faceHolds cornerAt boxHolds holdsXY visitedNodes visitedCount shown above
-    step run editStep editVerdict editRules commonVerdict headerVerdict rules2to6 rule28 badSession rule21 full unless areaCount areaField lay put recordBytes permitted
+    pointAnswer pointOf replyOf queryVerdict queryRules rule29 rule30 offGrid lowestFace faceHolds cornerAt boxHolds holdsXY visitedNodes visitedCount shown above
+    step run editStep editVerdict editRules commonVerdict headerVerdict headerRules fieldRules inOrder rule28 badSession rule21 full unless areaCount areaField lay put recordBytes permitted
     inTriangle sides allLeft allRight cross size64 mayNudge nudgeBits onGrid scaled gridFloat toBits round
 computed = tt
 

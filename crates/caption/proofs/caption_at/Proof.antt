@@ -1,5 +1,5 @@
 -- `caption::caption_at` meets its contract. Assumes nothing.
-use mathlib.Core.Path.{_≡_, ap}
+use mathlib.Core.Path.{_≡_}
 use lib.ListN.{length}
 use Rattle.names.proofs.NameLaws.{name-long}
 use Rattle.rooms.proofs.RoomLaws.{rooms-have-names}

@@ -3,7 +3,7 @@ use mathlib.Core.Path.{_≡_, sym, ap, subst, _∙_}
 use mathlib.Core.Bool.{not}
 use native.Mathlib.Nat.{le-trans}
 use lib.Dec.{T, lit≤}
-use lib.IntN.{ℤ, _+ℤ_}
+use lib.IntN.{_+ℤ_}
 use lib.Ieee.{Float, binary32, isNan, add, ofBits, toBits}
 use borrow.Author.Tests.{le-leb}
 use mir.Syntax.{w64}

@@ -3,7 +3,6 @@ use borrow.Author.Needs.{needs}
 use mathlib.Core.Path.{_≡_}
 use lib.ListN.{length}
 use Rattle.rooms.proofs.RoomLaws.{rooms-told}
-use borrow.Author.Needs.{needs}
 use Rattle.rooms.proofs.room_count.Statement.{statement}
 use Rattle.rooms.proofs.room_count.Tie as tie
 

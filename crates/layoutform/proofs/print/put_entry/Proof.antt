@@ -1,11 +1,9 @@
 -- `layoutform::print::put_entry` meets its contract. Assumes nothing.
 use native.Mathlib.Omega.{arith}
 use Prim.Native.Nat.{_+_, _-_, _≤_}
-use Rattle.printer.proofs.WriteLaws.{wrote-then}
+use Rattle.printer.proofs.WriteLaws.{wrote-then, wrote-is}
 use Rattle.letters.proofs.CaseLaws.{length-lowered}
-use Rattle.layoutform.specs.Form.{entryLine}
-use Rattle.layoutform.specs.Rewrite.{entryNamed}
-use Rattle.printer.proofs.WriteLaws.{wrote-is}
+use Rattle.layoutform.specs.Form.{entryNamed, entryLine}
 use Rattle.layoutform.proofs.PrintLaws.{entry-bytes, coordinate-end}
 use borrow.Author.Needs.{needs}
 use Rattle.layoutform.proofs.print.put_entry.Statement.{statement}

@@ -4,7 +4,7 @@ use native.Mathlib.Omega.{arith}
 use Prim.Native.Nat.{_+_, _≤_}
 use borrow.Author.Needs.{needs}
 use lib.ListN.{length}
-use Rattle.text.specs.Written.{written, spaced, after}
+use Rattle.text.specs.Written.{ended, spaced, after}
 use Rattle.printer.proofs.WriteLaws.{wrote-long}
 use Rattle.layout.specs.Grammar.{beginlayout, roomcount, trackcount, obstaclecount, doorhookcount, donelayout}
 use Rattle.layoutform.proofs.WholeLaws.{head-end, kept-rooms, kept-tracks, kept-obstacles, form-wrote}
@@ -17,7 +17,7 @@ sized g = search needs
 
 -- where the first line ends, and the door hooks' line
 first : (c : tie.After-put-key) → c .put-key .result ≤ 14
-unfolding written spaced after
+unfolding ended spaced after
 first c = omega (arith, c .put-key .ensures .next)
 
 hooks : (c : tie.After-put-head) → c .put-head .result ≤ c .before .before .before .before .before .put-section3 .result + 20

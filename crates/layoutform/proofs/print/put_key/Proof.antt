@@ -1,6 +1,5 @@
 -- `layoutform::print::put_key` meets its contract. Assumes nothing.
-use Rattle.printer.proofs.WriteLaws.{wrote-then}
-use Rattle.printer.proofs.WriteLaws.{wrote-is}
+use Rattle.printer.proofs.WriteLaws.{wrote-then, wrote-is}
 use Rattle.layoutform.proofs.PrintLaws.{key-bytes}
 use borrow.Author.Needs.{needs}
 use Rattle.layoutform.proofs.print.put_key.Statement.{statement}

@@ -5,7 +5,8 @@ use borrow.Author.Needs.{needs}
 use Prim.Native.Nat.{_*_, _-_, _≤_}
 use Rattle.printer.specs.Write.{Wrote}
 use Rattle.printer.proofs.WriteLaws.{wrote-long}
-use Rattle.sightform.specs.Form.{linesTo, ended}
+use Rattle.text.specs.Written.{ended}
+use Rattle.sightform.specs.Form.{linesTo}
 use Rattle.sightform.specs.Code.{printedNames}
 use Rattle.sightform.proofs.PrintLaws.{rooms-start, rooms-more, rooms-done}
 use Rattle.sightform.proofs.print.put_form.Statement.{statement}

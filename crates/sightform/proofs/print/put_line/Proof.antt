@@ -1,7 +1,6 @@
 -- `sightform::print::put_line` meets its contract. Assumes nothing.
 use native.Mathlib.Omega.{arith}
-use Rattle.printer.proofs.WriteLaws.{wrote-then}
-use Rattle.printer.proofs.WriteLaws.{wrote-is}
+use Rattle.printer.proofs.WriteLaws.{wrote-then, wrote-is}
 use Rattle.sightform.proofs.PrintLaws.{line-bytes, shown-short}
 use borrow.Author.Needs.{needs}
 use Rattle.sightform.proofs.print.put_line.Statement.{statement}

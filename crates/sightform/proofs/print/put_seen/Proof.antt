@@ -1,12 +1,12 @@
 -- `sightform::print::put_seen` meets its contract. Assumes nothing.
-use mathlib.Core.Path.{ap}
 use native.Mathlib.Omega.{arith}
 use borrow.Author.Needs.{needs}
 use Prim.Native.Nat.{_+_, _*_, _-_, _≤_}
 use mathlib.Core.List.{map}
 use Rattle.printer.specs.Write.{Wrote}
 use Rattle.printer.proofs.WriteLaws.{wrote-long}
-use Rattle.sightform.specs.Form.{seenTo, seenLine, ended}
+use Rattle.text.specs.Written.{ended}
+use Rattle.sightform.specs.Form.{seenTo, seenLine}
 use Rattle.sightform.specs.Code.{printedNames}
 use Rattle.sight.proofs.FindLaws.{kept-short}
 use Rattle.sightform.proofs.PrintLaws.{seen-start, seen-more, seen-further, seen-done}

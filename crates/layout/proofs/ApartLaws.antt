@@ -1,7 +1,7 @@
--- Lists whose entries all have a property, and lists of names of which no two are the same. Assumes nothing.
-use mathlib.Core.Path.{_≡_, refl, ap}
+-- Lists of names of which no two are the same. Assumes nothing.
+use mathlib.Core.Path.{_≡_, refl}
 use mathlib.Core.Bool.{false}
-use mathlib.Core.List.{List, [], _∷_, _++_, map, map-append}
+use mathlib.Core.List.{List, [], _∷_, _++_, map-append}
 use mathlib.Core.Logic.{⊎-elim}
 use Prim.Native.Nat.{ℕ, zero, suc, _+_, _<_}
 use native.Mathlib.Nat.{eq-or-lt-of-le, le-of-suc-le-suc}
@@ -12,28 +12,6 @@ use Rattle.verdict.proofs.Lowest.{none-under, under-none}
 use Rattle.names.specs.Name.{sameName}
 use Rattle.text.specs.Reading.{Word, Line, nth}
 use Rattle.layout.specs.Grammar.{namesOf, known}
-
--- each entry has it
-abbrev pub Each : {A : Type 0} → (A → Type 0) → List A → Type 0
-Each P [] = Unit
-Each P (x ∷ xs) = P x × Each P xs
-
-pub each-more : {A : Type 0} (P : A → Type 0) (xs : List A) (x : A) → Each P xs → P x → Each P (xs ++ (x ∷ []))
-each-more P [] x h p = (p, tt)
-each-more P (y ∷ xs) x (q, h) p = (q, each-more P xs x h p)
-
-pub each-at : {A : Type 0} (P : A → Type 0) (d : A) (xs : List A) → Each P xs → (k : ℕ) → k < length xs → P (getD xs k d)
-each-at P d [] h k l = absurd (omega arith)
-each-at P d (x ∷ xs) (p, h) zero l = p
-each-at P d (x ∷ xs) (p, h) (suc k) l = each-at P d xs h k (le-of-suc-le-suc l)
-
-pub each-of : {A : Type 0} (P : A → Type 0) (d : A) (xs : List A) → ((k : ℕ) → k < length xs → P (getD xs k d)) → Each P xs
-each-of P d [] h = tt
-each-of P d (x ∷ xs) h = (h zero (omega arith), each-of P d xs (λ k l. h (suc k) (omega arith)))
-
-pub each-map : {A B : Type 0} (P : A → Type 0) (Q : B → Type 0) (f : A → B) → ((x : A) → P x → Q (f x)) → (xs : List A) → Each P xs → Each Q (map f xs)
-each-map P Q f g [] h = tt
-each-map P Q f g (x ∷ xs) (p, h) = (g x p, each-map P Q f g xs h)
 
 -- ---- the last of a list
 
