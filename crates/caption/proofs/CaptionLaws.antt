@@ -10,31 +10,32 @@ use Rattle.text.specs.Scan.{words, lineAt}
 use Rattle.text.specs.Reading.{nth}
 use Rattle.layout.specs.declared.Layout.{Layout}
 use Rattle.rooms.specs.Rooms.{roomNames}
-use Rattle.layout.specs.Starts.{keptName, Answered}
+use Rattle.layout.specs.Starts.{keptName, layoutRead}
+use Rattle.layout.proofs.AnsweredLaws.{answered}
 use Rattle.layout.proofs.HeldLaws.{room-name}
 use Rattle.rooms.proofs.RoomLaws.{rooms-are, names-are}
 use Rattle.caption.specs.Caption.{hasRoom, roomName, captionOf, captionNumber}
 
 -- ---- the rooms of a layout, by what the reader answered
 
-module _ (s : List ℕ) (r : Layout) (sized : length (r .starts) ≡ 192) (a : Answered s r) where
+module _ (s : List ℕ) (r : Layout) (a : r ≡ layoutRead s) where
   pub has-it : (i : ℕ) → i < r .rooms → hasRoom s i ≡ true
   unfolding hasRoom
-  has-it i h = lt-ltb i (length (roomNames s)) (omega (arith, rooms-are s r sized a))
+  has-it i h = lt-ltb i (length (roomNames s)) (omega (arith, rooms-are s r a))
 
   pub has-none : (i : ℕ) → r .rooms ≤ i → hasRoom s i ≡ false
   unfolding hasRoom
-  has-none i h = le-ltb i (length (roomNames s)) (omega (arith, rooms-are s r sized a))
+  has-none i h = le-ltb i (length (roomNames s)) (omega (arith, rooms-are s r a))
 
   pub its-name : (i : ℕ) (l u : List ℕ) → i < r .rooms → l ≡ lineAt s (getD (r .starts) i 0) → u ≡ nth (words l) 0 → u ≡ roomName s i
   unfolding roomName
   its-name i l u h el eu =
-      eu ∙ rw (el, ← (names-are s r sized a)) (sym (room-name s (r .starts) (r .rooms) i (omega (arith, a .held .few-rooms)) h))
+      eu ∙ rw (el, ← (names-are s r a)) (sym (room-name s (r .starts) (r .rooms) i (omega (arith, answered s r a .held .few-rooms, answered s r a .sized)) h))
 
   -- the name at a kept start is the room's
   pub kept-name : (k : ℕ) → k < r .rooms → keptName s (r .starts) k ≡ roomName s k
   unfolding keptName
-  kept-name k h = rw (lt-ltb k (length (r .starts)) (omega (arith, a .held .few-rooms))) (its-name k _ _ h refl refl)
+  kept-name k h = rw (lt-ltb k (length (r .starts)) (omega (arith, answered s r a .held .few-rooms, answered s r a .sized))) (its-name k _ _ h refl refl)
 
 -- ---- the visitor's text, then the house text
 

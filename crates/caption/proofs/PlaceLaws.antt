@@ -6,7 +6,6 @@ use Prim.Native.Nat.{ℕ, _+_, _-_, _≤_, _<_}
 use native.Mathlib.Omega.{arith}
 use lib.Dec.{eqb}
 use lib.ListN.{length, drop, length-drop}
-use lib.Seq.{length-take-le}
 use borrow.Author.Tests.{eq-eqb, ne-eqb, eqb-true, eqb-false, ltb-true}
 use Rattle.verdict.proofs.Bools.{test}
 use Rattle.verdict.proofs.Verdict.{passed}
@@ -17,7 +16,7 @@ use Rattle.text.specs.Sound.{rules31to32}
 use Rattle.text.specs.Reading.{Word, nth}
 use Rattle.text.proofs.RunLaws.{run-le}
 use Rattle.text.proofs.SoundLaws.{sound-length}
-use Rattle.text.proofs.SplitLaws.{line-step, line-none}
+use Rattle.text.proofs.SplitLaws.{line-step, line-none, line-long}
 use Rattle.caption.specs.declared.CaptionAt.{CaptionAt}
 use Rattle.layout.specs.Grammar.{namesOf}
 use Rattle.layout.specs.Layout.{layoutVerdict, layoutOf, grammar}
@@ -36,10 +35,6 @@ unfolding entersAs
 enters-by w l u r h eu er = er ∙ rw (eq-eqb (length (words l)) 4 h, eu)
 
 -- ---- the search, line by line
-
-line-long : (s : List ℕ) (at : ℕ) → length (lineAt s at) ≡ run (apart isEnd) (drop at s)
-unfolding lineAt
-line-long s at = length-take-le (run (apart isEnd) (drop at s)) (drop at s) (run-le (apart isEnd) (drop at s))
 
 module _ (w s : List ℕ) (at : ℕ) where
   pub place-hit : (r : ℕ) → at < length s → entersAs w (lineAt s at) ≡ true → r ≡ run isGap (lineAt s at) → at + r ≡ namePlace w at (lines (drop at s))

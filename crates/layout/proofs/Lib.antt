@@ -10,4 +10,5 @@ pub mod HeldLaws
 pub mod FaultLaws
 pub mod StepLaws
 pub mod ScanLaws
+pub mod AnsweredLaws
 pub mod Examples

@@ -4,10 +4,10 @@ use mathlib.Core.Path.{_≡_}
 use Prim.Native.Nat.{ℕ, _+_, _-_, _≤_, _<_}
 use mathlib.Core.Bool.{true, cond}
 use mathlib.Core.List.{List, [], _∷_, map}
-use lib.ListN.{length, take, drop, set, getD}
+use lib.ListN.{length, take, drop, set, getD, replicate}
 use lib.Dec.{ltb, eqb}
 use Rattle.verdict.specs.Verdict.{refused}
-use Rattle.text.specs.Scan.{words, lineAt}
+use Rattle.text.specs.Scan.{words, lines, lineAt}
 use Rattle.names.specs.Name.{isName}
 use Rattle.number.specs.Count.{value, isCount}
 use Rattle.layout.specs.declared.Progress.{Progress}
@@ -68,8 +68,42 @@ movedTo c (w ∷ ws) =
 unfoldable pub slotOf : Progress → ℕ
 slotOf c = cond (eqb (c .sect) 2) (c .rooms) (cond (eqb (c .sect) 3) (64 + c .tracks) (128 + c .obstacles))
 
+-- the starts behind a line that starts at `at`: while entries are to come it is kept; a blank line's is written over by the next one's
 unfoldable pub kept : List ℕ → Progress → ℕ → List ℕ
 kept starts c at = cond (ltb 0 (c .left)) (set starts (slotOf c) at) starts
+
+-- the starts kept of some lines, the first of which starts at `at`; LF ends each
+unfoldable pub startsFrom : List ℕ → Progress → ℕ → List (List ℕ) → List ℕ
+startsFrom starts c at [] = starts
+startsFrom starts c at (l ∷ ls) = startsFrom (kept starts c at) (movedTo c (words l)) (at + length l + 1) ls
+
+abbrev pub noStarts : List ℕ
+noStarts = replicate 192 0
+
+-- the code's state before the first line
+abbrev pub begun : Progress
+begun = record { sect = 0; left = 0; rooms = 0; tracks = 0; obstacles = 0 }
+
+-- those of a text
+unfoldable pub startsOf : List ℕ → List ℕ
+startsOf s = startsFrom noStarts begun 0 (lines s)
+
+-- ---- what is answered
+
+-- a refused layout: no entries
+unfoldable pub noLayout : ℕ → ℕ → Layout
+noLayout number place = record { number = number; place = place; rooms = 0; tracks = 0; obstacles = 0; starts = noStarts }
+
+-- the reader's answer: the verdict, how many entries of each kind there are, and their starts; none on refusal
+unfoldable pub layoutRead : List ℕ → Layout
+layoutRead s = record {
+  number = layoutVerdict s .number;
+  place = layoutVerdict s .place;
+  rooms = length (layoutOf s .rooms);
+  tracks = length (layoutOf s .tracks);
+  obstacles = length (layoutOf s .obstacles);
+  starts = cond (eqb (layoutVerdict s .number) 0) (startsOf s) noStarts;
+}
 
 -- the code's counts and starts are those of a layout's entries
 pub record Held (s : List ℕ) (r : Layout) (t : Typed) : Type 0 where
@@ -84,8 +118,10 @@ pub record Held (s : List ℕ) (r : Layout) (t : Typed) : Type 0 where
 pub record Found (s : List ℕ) (r : Layout) (found : Reading) : Type 0 where
   pub verdict : refused (r .number) (r .place) ≡ found .verdict
   pub held : Held s r (found .typed)
+  pub starts : r .starts ≡ cond (eqb (found .verdict .number) 0) (startsOf s) noStarts
 
--- what the reader answers: the layout's verdict, and where its entries are
+-- what the reader's callers go by: the layout's verdict, and that the entries are where the answer says
 pub record Answered (s : List ℕ) (r : Layout) : Type 0 where
   pub verdict : refused (r .number) (r .place) ≡ layoutVerdict s
   pub held : Held s r (layoutOf s)
+  pub sized : length (r .starts) ≡ 192

@@ -8,7 +8,7 @@ ghost use lib.ListN.{length};
 ghost use Rattle.names.specs.Name.{isName};
 ghost use Rattle.layout.specs.Grammar.{namesOf, knownBut};
 ghost use Rattle.layout.specs.Layout.{grammar};
-ghost use Rattle.layout.specs.Starts.{held, Named, Found, Answered};
+ghost use Rattle.layout.specs.Starts.{held, Named, noLayout, Found, layoutRead};
 
 mod lines;
 
@@ -36,7 +36,7 @@ pub struct Layout {
 
 // A refused layout: no entries.
 fn refused_layout(number: u32, place: u32) -> Layout
-    ensures { λ r. ⌜ (r .number ≡ number) × ((r .place ≡ place) × ((r .rooms ≡ 0) × ((r .tracks ≡ 0) × (r .obstacles ≡ 0)))) ⌝ }
+    ensures { λ r. ⌜ r ≡ noLayout number place ⌝ }
 {
     Layout {
         number,
@@ -88,7 +88,7 @@ fn read_lines(s: &[u8]) -> Layout
 
 // A layout: rules 31 to 38, and where the entries are.
 pub fn read(s: &[u8]) -> Layout
-    ensures { λ r. ⌜ Answered (now (s .entry)) r ⌝ }
+    ensures { λ r. ⌜ r ≡ layoutRead (now (s .entry)) ⌝ }
 {
     let so = text::sound_verdict(s);
     if so.number != 0 {

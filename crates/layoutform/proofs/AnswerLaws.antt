@@ -16,7 +16,7 @@ use Rattle.names.proofs.NameLaws.{name-long}
 use Rattle.layout.specs.declared.Layout.{Layout}
 use Rattle.layout.specs.Layout.{layoutVerdict, layoutOf}
 use Rattle.rooms.specs.Rooms.{nameVerdict}
-use Rattle.layout.specs.Starts.{Answered}
+use Rattle.layout.specs.Starts.{layoutRead}
 use Rattle.layout.proofs.ReadLaws.{layout-good}
 use Rattle.rooms.proofs.RoomLaws.{verdict-is, verdict-accepts}
 use Rattle.layoutform.specs.Form.{entryOf, partsOf, partsOfTyped, formText}
@@ -25,14 +25,14 @@ use Rattle.layoutform.proofs.FormTrip.{form-within}
 use Rattle.layoutform.proofs.LengthLaws.{form-short}
 use Rattle.layoutform.proofs.RenameLaws.{renamed-past, renamed-good, Names, names}
 
-module _ (s : List ℕ) (r : Layout) (sized : length (r .starts) ≡ 192) (a : Answered s r) where
+module _ (s : List ℕ) (r : Layout) (a : r ≡ layoutRead s) where
   -- ---- rewriting
 
   pub rewrite-refused : (o text : List ℕ) → (r .number ≡ 0 → ⊥) → (f : Form) → f ≡ noForm (r .number) (r .place) → Answers f o (rewriteVerdict s (length o)) text o
-  rewrite-refused o text z f e = refused-form (rewriteVerdict s (length o)) text o _ _ (stop ∙ (verdict-is s r sized a)) z f e
+  rewrite-refused o text z f e = refused-form (rewriteVerdict s (length o)) text o _ _ (stop ∙ (verdict-is s r a)) z f e
     where
       stop : rewriteVerdict s (length o) ≡ layoutVerdict s
-      stop = unfold rewriteVerdict in (then-stop (layoutVerdict s) (λ y. z (sym (ap (λ (v : Answer). v .number) (verdict-is s r sized a)) ∙ y)) _)
+      stop = unfold rewriteVerdict in (then-stop (layoutVerdict s) (λ y. z (sym (ap (λ (v : Answer). v .number) (verdict-is s r a)) ∙ y)) _)
 
   own-name : (w : Word) → renamed (partsOf s) 64 w ≡ partsOf s
   unfolding renamed partsOf partsOfTyped
@@ -44,7 +44,7 @@ module _ (s : List ℕ) (r : Layout) (sized : length (r .starts) ≡ 192) (a : A
   pub rewrite-by : (w : Word) (f : Form) (new o : List ℕ) → r .number ≡ 0 → Answers f new (rule40 (renamedForm s 64 w) (length o)) (renamedForm s 64 w) o → Answers f new (rewriteVerdict s (length o)) (formText (partsOf s)) o
   unfolding rewriteVerdict
   rewrite-by w f new o z h =
-      let n = then-next (layoutVerdict s) (rule40 (formText (partsOf s)) (length o)) (ap (λ (v : Answer). v .number) (verdict-accepts s r sized a z)) in
+      let n = then-next (layoutVerdict s) (rule40 (formText (partsOf s)) (length o)) (ap (λ (v : Answer). v .number) (verdict-accepts s r a z)) in
       rw n (rw (own-name w) at h)
 
   -- ---- with another name
@@ -54,12 +54,12 @@ module _ (s : List ℕ) (r : Layout) (sized : length (r .starts) ≡ 192) (a : A
     module _ (o : List ℕ) (v : Answer) (ev : v ≡ nameVerdict s i w) where
       pub rename-refused : (r .number ≡ 0 → ⊥) → (f : Form) → f ≡ noForm (r .number) (r .place) → Answers f o (renameVerdict s i w (length o)) (renamedForm s i w) o
       unfolding renameVerdict
-      rename-refused z = first-refuses (layoutVerdict s) _ _ (renamedForm s i w) o _ _ (verdict-is s r sized a) z
+      rename-refused z = first-refuses (layoutVerdict s) _ _ (renamedForm s i w) o _ _ (verdict-is s r a) z
 
       module _ (z : r .number ≡ 0) where
         pub rename-unnamed : (v .number ≡ 0 → ⊥) → (f : Form) → f ≡ noForm (v .number) (v .place) → Answers f o (renameVerdict s i w (length o)) (renamedForm s i w) o
         unfolding renameVerdict
-        rename-unnamed n = second-refuses (layoutVerdict s) _ _ (renamedForm s i w) o v (verdict-accepts s r sized a z) ev n
+        rename-unnamed n = second-refuses (layoutVerdict s) _ _ (renamedForm s i w) o v (verdict-accepts s r a z) ev n
 
         module _ (y : v .number ≡ 0) where
           named : Names s i w
@@ -73,4 +73,4 @@ module _ (s : List ℕ) (r : Layout) (sized : length (r .starts) ≡ 192) (a : A
 
           pub rename-by : (f : Form) (new : List ℕ) → Answers f new (rule40 (renamedForm s i w) (length o)) (renamedForm s i w) o → Answers f new (renameVerdict s i w (length o)) (renamedForm s i w) o
           unfolding renameVerdict
-          rename-by f new = third-decides (layoutVerdict s) _ _ f new (renamedForm s i w) o v (verdict-accepts s r sized a z) ev y
+          rename-by f new = third-decides (layoutVerdict s) _ _ f new (renamedForm s i w) o v (verdict-accepts s r a z) ev y

@@ -17,27 +17,28 @@ use Rattle.text.specs.Reading.{Word, nth}
 use Rattle.layout.specs.Grammar.{namesOf, knownBut}
 use Rattle.layout.specs.Layout.{layoutVerdict, layoutOf}
 use Rattle.rooms.specs.Rooms.{roomNames, roomsOf, nameVerdict}
-use Rattle.layout.specs.Starts.{held, Named, keptName, Answered}
+use Rattle.layout.specs.Starts.{held, Named, keptName, layoutRead}
+use Rattle.layout.proofs.AnsweredLaws.{answered}
 use Rattle.layout.proofs.ApartLaws.{length-names}
 use Rattle.layout.proofs.ReadLaws.{layout-good, verdict-proper}
 use Rattle.layout.proofs.HeldLaws.{held-long, rooms-named}
 
 -- ---- the rooms of a layout, by what the reader answered
 
-module _ (s : List ℕ) (r : Layout) (sized : length (r .starts) ≡ 192) (a : Answered s r) where
+module _ (s : List ℕ) (r : Layout) (a : r ≡ layoutRead s) where
   pub rooms-are : r .rooms ≡ length (roomNames s)
   unfolding roomNames
-  rooms-are = omega (arith, length-names (layoutOf s .rooms), ap length (a .held .rooms), held-long s (r .starts) 0 (r .rooms) (omega (arith, a .held .few-rooms)))
+  rooms-are = omega (arith, length-names (layoutOf s .rooms), ap length (answered s r a .held .rooms), held-long s (r .starts) 0 (r .rooms) (omega (arith, answered s r a .held .few-rooms, answered s r a .sized)))
 
   pub names-are : namesOf (held s (r .starts) 0 (r .rooms)) ≡ roomNames s
   unfolding roomNames
-  names-are = ap namesOf (a .held .rooms)
+  names-are = ap namesOf (answered s r a .held .rooms)
 
   pub rooms-have-names : Named s (r .starts) (r .rooms)
-  rooms-have-names = rooms-named s (r .starts) (r .rooms) (omega (arith, a .held .few-rooms)) (rw (a .held .rooms) (layout-good s .rooms))
+  rooms-have-names = rooms-named s (r .starts) (r .rooms) (omega (arith, answered s r a .held .few-rooms, answered s r a .sized)) (rw (answered s r a .held .rooms) (layout-good s .rooms))
 
   pub verdict-is : layoutVerdict s ≡ refused (r .number) (r .place)
-  verdict-is = sym (a .verdict)
+  verdict-is = sym (answered s r a .verdict)
 
   pub verdict-accepts : r .number ≡ 0 → layoutVerdict s ≡ accepted
   verdict-accepts z = verdict-proper s .at-0 (ap (λ (v : Answer). v .number) verdict-is ∙ z)

@@ -5,12 +5,12 @@ use text::line_at;
 use text::word;
 use verdict::Answer;
 ghost use mathlib.Core.Path.{_≡_};
-ghost use Rattle.layout.specs.Starts.{keptName, Answered};
+ghost use Rattle.layout.specs.Starts.{keptName, layoutRead};
 ghost use Rattle.rooms.specs.Rooms.{roomsOf, nameVerdict};
 
 // 21, 34 and 37: whether a room of a layout that was read may have a typed name.
 pub fn name_verdict(text: &[u8], r: Layout, room: u32, name: &[u8]) -> Answer
-    requires { ⌜ Answered (now text) r ⌝ }
+    requires { ⌜ r ≡ layoutRead (now text) ⌝ }
     ensures { λ a. ⌜ a ≡ nameVerdict (now (text .entry)) room (now (name .entry)) ⌝ }
 {
     let i = room as usize;

@@ -8,7 +8,8 @@ use lib.ListN.{length, getD}
 use Rattle.verdict.specs.declared.Answer.{Answer}
 use Rattle.text.specs.Sound.{rules31to32}
 use Rattle.layout.specs.declared.Layout.{Layout}
-use Rattle.layout.specs.Starts.{Named, Answered}
+use Rattle.layout.specs.Starts.{Named, layoutRead}
+use Rattle.layout.proofs.AnsweredLaws.{answered}
 use Rattle.rooms.proofs.RoomLaws.{names-are, verdict-is, verdict-accepts, rooms-have-names}
 use Rattle.sight.specs.declared.Sight.{Sight}
 use Rattle.sight.specs.declared.Row.{Row}
@@ -30,22 +31,22 @@ no-row-told layout s room v e h =
 
 -- ---- by what was read of the layout
 
-module _ (layout s : List ℕ) (r : Layout) (sized : length (r .starts) ≡ 192) (a : Answered layout r) where
+module _ (layout s : List ℕ) (r : Layout) (a : r ≡ layoutRead layout) where
   pub unread : (r .number ≡ 0 → ⊥) → noSight (r .number) (r .place) ≡ sightOf layout s
   unfolding noSight
   unread z =
-      let e = verdict-is layout r sized a in
+      let e = verdict-is layout r a in
       sym (sight-of-no-layout layout s (λ y. z (sym (ap (λ (v : Answer). v .number) e) ∙ y)) ∙ rw e)
 
   pub unsound : (v : Answer) → r .number ≡ 0 → v ≡ rules31to32 s → (v .number ≡ 0 → ⊥) → noSight (v .number) (v .place) ≡ sightOf layout s
   unfolding noSight
   unsound v y e z =
-      rw (e) (sym (sight-of-unsound layout s (ap (λ (v : Answer). v .number) (verdict-accepts layout r sized a y)) (λ x. z (ap (λ (v : Answer). v .number) e ∙ x))))
+      rw (e) (sym (sight-of-unsound layout s (ap (λ (v : Answer). v .number) (verdict-accepts layout r a y)) (λ x. z (ap (λ (v : Answer). v .number) e ∙ x))))
 
   pub sound : (v : Answer) (w : Sight) → r .number ≡ 0 → v ≡ rules31to32 s → v .number ≡ 0 → w ≡ asRead (grammar (keptNames layout (r .starts) (r .rooms)) s) → w ≡ sightOf layout s
   sound v w y e z h =
-      h ∙ rw (names-are layout r sized a) (sym (sight-of-sound layout s (ap (λ (v : Answer). v .number) (verdict-accepts layout r sized a y)) (sym (ap (λ (v : Answer). v .number) e) ∙ z)))
+      h ∙ rw (names-are layout r a) (sym (sight-of-sound layout s (ap (λ (v : Answer). v .number) (verdict-accepts layout r a y)) (sym (ap (λ (v : Answer). v .number) e) ∙ z)))
 
   -- what the reader of lines and the printers ask
   pub kept : (r .rooms ≤ 64) × ((r .rooms ≤ length (r .starts)) × Named layout (r .starts) (r .rooms))
-  kept = (a .held .few-rooms, (omega (arith, a .held .few-rooms), rooms-have-names layout r sized a))
+  kept = (answered layout r a .held .few-rooms, (omega (arith, answered layout r a .held .few-rooms, answered layout r a .sized), rooms-have-names layout r a))

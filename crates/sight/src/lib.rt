@@ -6,7 +6,7 @@ use text::word;
 ghost use mathlib.Core.Path.{_≡_};
 ghost use Prim.Native.Nat.{_+_, _<_, _≤_};
 ghost use lib.ListN.{length};
-ghost use Rattle.layout.specs.Starts.{Named, Answered};
+ghost use Rattle.layout.specs.Starts.{Named, layoutRead};
 ghost use Rattle.sight.specs.Rows.{sees};
 ghost use Rattle.sight.specs.Sight.{grammar, sightOf, rowAnswer};
 ghost use Rattle.sight.specs.Code.{asRead, noSight, keptNames};
@@ -87,7 +87,7 @@ fn read_lines(layout: &[u8], starts: &[usize], n: usize, s: &[u8]) -> Sight
 
 // Visibility against a layout that was accepted.
 pub fn look(layout: &[u8], r: Layout, s: &[u8]) -> Sight
-    requires { ⌜ Answered (now layout) r × (r .number ≡ 0) ⌝ }
+    requires { ⌜ (r ≡ layoutRead (now layout)) × (r .number ≡ 0) ⌝ }
     ensures { λ v. ⌜ v ≡ sightOf (now (layout .entry)) (now (s .entry)) ⌝ }
 {
     let so = text::sound_verdict(s);

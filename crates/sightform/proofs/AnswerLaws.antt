@@ -16,7 +16,7 @@ use Rattle.text.specs.Reading.{Word}
 use Rattle.text.specs.Written.{rule40}
 use Rattle.layout.specs.declared.Layout.{Layout}
 use Rattle.rooms.specs.Rooms.{roomNames, nameVerdict}
-use Rattle.layout.specs.Starts.{Answered}
+use Rattle.layout.specs.Starts.{layoutRead}
 use Rattle.rooms.proofs.RoomLaws.{names-are, verdict-is}
 use Rattle.sight.specs.declared.Sight.{Sight}
 use Rattle.sight.specs.Sight.{sightVerdict, rowsOf, sightOf}
@@ -25,12 +25,12 @@ use Rattle.sightform.specs.Form.{sightText}
 use Rattle.sightform.specs.Rewrite.{shownNames, renamedNames, rewrittenSight, renamedSight, sightRewriteVerdict, sightRenameVerdict}
 use Rattle.sightform.specs.Code.{printedNames}
 
-module _ (layout s : List ℕ) (r : Layout) (sized : length (r .starts) ≡ 192) (a : Answered layout r) where
+module _ (layout s : List ℕ) (r : Layout) (a : r ≡ layoutRead layout) where
   -- ---- the names that are printed
 
   printed-are : (i : ℕ) (w : Word) → printedNames layout (r .starts) (r .rooms) i w ≡ renamedNames layout i w
   unfolding printedNames renamedNames shownNames
-  printed-are i w = rw (names-are layout r sized a)
+  printed-are i w = rw (names-are layout r a)
 
   own-names : (w : Word) → renamedNames layout 64 w ≡ shownNames layout
   unfolding renamedNames shownNames
@@ -38,7 +38,7 @@ module _ (layout s : List ℕ) (r : Layout) (sized : length (r .starts) ≡ 192)
 
   layout-refuses : (r .number ≡ 0 → ⊥) → sightVerdict layout s ≡ refused (r .number) (r .place)
   layout-refuses z =
-      let e = verdict-is layout r sized a in
+      let e = verdict-is layout r a in
       sight-no-layout layout s (λ y. z (sym (ap (λ (v : Answer). v .number) e) ∙ y)) ∙ e
 
   module _ (o : List ℕ) where

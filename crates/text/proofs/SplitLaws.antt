@@ -216,6 +216,10 @@ line-step s from e he h =
     let k : e - from ≡ run (apart isEnd) (drop from s) = omega arith in
     rw (← k) (line-cut s from e he h)
 
+pub line-long : (s : List ℕ) (at : ℕ) → length (lineAt s at) ≡ run (apart isEnd) (drop at s)
+unfolding lineAt
+line-long s at = length-take-le (run (apart isEnd) (drop at s)) (drop at s) (run-le (apart isEnd) (drop at s))
+
 -- past the end no line starts
 pub line-past : (s : List ℕ) (from : ℕ) → length s ≤ from → lineAt s from ≡ []
 unfolding lineAt

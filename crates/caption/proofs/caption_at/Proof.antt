@@ -1,21 +1,14 @@
 -- `caption::caption_at` meets its contract. Assumes nothing.
-use mathlib.Core.Path.{_≡_}
-use lib.ListN.{length}
 use Rattle.names.proofs.NameLaws.{name-long}
 use Rattle.rooms.proofs.RoomLaws.{rooms-have-names}
 use Rattle.caption.proofs.CaptionLaws.{has-it, has-none, its-name}
 use Rattle.layout.proofs.HeldLaws.{named-asked}
 use Rattle.caption.proofs.PlaceLaws.{room-read, place-first, place-second, place-41}
+use native.Mathlib.Omega.{arith}
+use Rattle.layout.proofs.AnsweredLaws.{answered}
 use borrow.Author.Needs.{needs}
 use Rattle.caption.proofs.caption_at.Statement.{statement}
 use Rattle.caption.proofs.caption_at.Tie as tie
-
--- the array has its places
-sized : (c : tie.After-read) → length (c .read .result .starts) ≡ 192
-sized c = search needs
-
-sized2 : (c : tie.After-read2) → length (c .read2 .result .starts) ≡ 192
-sized2 c = search needs
 
 read-requires : tie.Need-read-requires
 read-requires c κs = search needs
@@ -24,7 +17,7 @@ mul-at : tie.Need-mul-at
 mul-at c = search needs
 
 element-copy-out-at : tie.Need-element-copy-out-at
-element-copy-out-at c = search needs
+element-copy-out-at c = omega (arith, answered _ _ (c .before .read .ensures) .held .few-rooms, c .if1 .taken)
 
 line-at-requires : tie.Need-line-at-requires
 line-at-requires c κs = search needs
@@ -36,13 +29,13 @@ found-in-requires : tie.Need-found-in-requires
 found-in-requires c κs =
     let r = c .before .before .before .before in
     let h = c .before .before .before .if1 .taken in
-    (room-read _ _ (has-it _ _ (sized r) (r .read .ensures) _ h), name-long _ (named-asked _ (r .read .result .starts) _ _ _ (c .before .line-at .ensures) (c .word .ensures) (rooms-have-names _ _ (sized r) (r .read .ensures) .name _ h)) .1)
+    (room-read _ _ (has-it _ _ (r .read .ensures) _ h), name-long _ (named-asked _ (r .read .result .starts) _ _ _ (c .before .line-at .ensures) (c .word .ensures) (rooms-have-names _ _ (r .read .ensures) .name _ h)) .1)
 
 returns : tie.Need-returns
 returns c =
     let r = c .before .before .before .before .before in
     let h = c .before .before .before .before .if1 .taken in
-    place-first _ _ _ _ _ (has-it _ _ (sized r) (r .read .ensures) _ h) (its-name _ _ (sized r) (r .read .ensures) _ _ _ h (c .before .before .line-at .ensures) (c .before .word .ensures)) (c .found-in .ensures)
+    place-first _ _ _ _ _ (has-it _ _ (r .read .ensures) _ h) (its-name _ _ (r .read .ensures) _ _ _ h (c .before .before .line-at .ensures) (c .before .word .ensures)) (c .found-in .ensures)
 
 read-requires-2 : tie.Need-read-requires-2
 read-requires-2 c κs = search needs
@@ -51,7 +44,7 @@ mul-at-2 : tie.Need-mul-at-2
 mul-at-2 c = search needs
 
 element-copy-out-at-2 : tie.Need-element-copy-out-at-2
-element-copy-out-at-2 c = search needs
+element-copy-out-at-2 c = omega (arith, answered _ _ (c .before .read2 .ensures) .held .few-rooms, c .if2 .taken)
 
 line-at-requires-2 : tie.Need-line-at-requires-2
 line-at-requires-2 c κs = search needs
@@ -63,20 +56,20 @@ found-in-requires-2 : tie.Need-found-in-requires-2
 found-in-requires-2 c κs =
     let r = c .before .before .before .before in
     let h = c .before .before .before .if2 .taken in
-    (room-read _ _ (has-it _ _ (sized2 r) (r .read2 .ensures) _ h), name-long _ (named-asked _ (r .read2 .result .starts) _ _ _ (c .before .line-at2 .ensures) (c .word2 .ensures) (rooms-have-names _ _ (sized2 r) (r .read2 .ensures) .name _ h)) .1)
+    (room-read _ _ (has-it _ _ (r .read2 .ensures) _ h), name-long _ (named-asked _ (r .read2 .result .starts) _ _ _ (c .before .line-at2 .ensures) (c .word2 .ensures) (rooms-have-names _ _ (r .read2 .ensures) .name _ h)) .1)
 
 returns-2 : tie.Need-returns-2
 returns-2 c =
     let q = c .before .before .before .before .before in
     let r = c .before .before .before .before .before .before .before in
     let h = c .before .before .before .before .if2 .taken in
-    place-second _ _ _ _ _ (has-none _ _ (sized r) (r .read .ensures) _ (c .before .before .before .before .before .before .if1 .left)) (has-it _ _ (sized2 q) (q .read2 .ensures) _ h) (its-name _ _ (sized2 q) (q .read2 .ensures) _ _ _ h (c .before .before .line-at2 .ensures) (c .before .word2 .ensures)) (c .found-in2 .ensures)
+    place-second _ _ _ _ _ (has-none _ _ (r .read .ensures) _ (c .before .before .before .before .before .before .if1 .left)) (has-it _ _ (q .read2 .ensures) _ h) (its-name _ _ (q .read2 .ensures) _ _ _ h (c .before .before .line-at2 .ensures) (c .before .word2 .ensures)) (c .found-in2 .ensures)
 
 returns-3 : tie.Need-returns-3
 returns-3 c =
     let q = c .before in
     let r = c .before .before .before in
-    place-41 _ _ _ (has-none _ _ (sized r) (r .read .ensures) _ (c .before .before .if1 .left)) (has-none _ _ (sized2 q) (q .read2 .ensures) _ (c .if2 .left))
+    place-41 _ _ _ (has-none _ _ (r .read .ensures) _ (c .before .before .if1 .left)) (has-none _ _ (q .read2 .ensures) _ (c .if2 .left))
 
 pub caption-at-spec : {M : Type 1} → statement M
 caption-at-spec =

@@ -1,14 +1,10 @@
 -- `layoutform::layout_rename` meets its contract. Assumes nothing.
-use mathlib.Core.Path.{_≡_, refl}
-use lib.ListN.{length}
+use mathlib.Core.Path.{refl}
+use Rattle.layout.proofs.AnsweredLaws.{answered}
 use borrow.Author.Needs.{needs}
 use Rattle.layoutform.proofs.AnswerLaws.{rename-refused, rename-unnamed, rename-name, rename-short, rename-by}
 use Rattle.layoutform.proofs.layout_rename.Statement.{statement}
 use Rattle.layoutform.proofs.layout_rename.Tie as tie
-
--- the array has its places
-sized : (c : tie.After-read) → length (c .read .result .starts) ≡ 192
-sized c = search needs
 
 read-requires : tie.Need-read-requires
 read-requires c κs = search needs
@@ -19,7 +15,7 @@ refused-form-requires c κs = search needs
 returns : tie.Need-returns
 returns c =
     let r = c .before .before .before in
-    rename-refused _ _ (sized r) (r .read .ensures) _ _ _ _ refl (c .before .if1 .taken) _ (c .refused-form .ensures)
+    rename-refused _ _ (r .read .ensures) _ _ _ _ refl (c .before .if1 .taken) _ (c .refused-form .ensures)
 
 name-verdict-requires : tie.Need-name-verdict-requires
 name-verdict-requires c κs = search needs
@@ -30,12 +26,12 @@ refused-form-requires-2 c κs = search needs
 returns-2 : tie.Need-returns-2
 returns-2 c =
     let r = c .before .before .before .before .before .before in
-    rename-unnamed _ _ (sized r) (r .read .ensures) _ _ _ _ (c .before .before .before .name-verdict .ensures) (c .before .before .before .before .if1 .left) (c .before .if2 .taken) _ (c .refused-form2 .ensures)
+    rename-unnamed _ _ (r .read .ensures) _ _ _ _ (c .before .before .before .name-verdict .ensures) (c .before .before .before .before .if1 .left) (c .before .if2 .taken) _ (c .refused-form2 .ensures)
 
 write-form-requires : tie.Need-write-form-requires
 write-form-requires c κs =
     let r = c .before .before .before .before .before .before in
-    ((r .read .ensures .held, rename-name _ _ (sized r) (r .read .ensures) _ _ (c .before .before .before .before .before .before .before .before .before .before .args .out .now) _ (c .before .before .before .name-verdict .ensures) (c .before .before .before .before .if1 .left) (c .before .if2 .left)), rename-short _ _ (sized r) (r .read .ensures) _ _ (c .before .before .before .before .before .before .before .before .before .before .args .out .now) _ (c .before .before .before .name-verdict .ensures) (c .before .before .before .before .if1 .left) (c .before .if2 .left))
+    ((answered _ _ (r .read .ensures) .held, rename-name _ _ (r .read .ensures) _ _ (c .before .before .before .before .before .before .before .before .before .before .args .out .now) _ (c .before .before .before .name-verdict .ensures) (c .before .before .before .before .if1 .left) (c .before .if2 .left)), rename-short _ _ (r .read .ensures) _ _ (c .before .before .before .before .before .before .before .before .before .before .args .out .now) _ (c .before .before .before .name-verdict .ensures) (c .before .before .before .before .if1 .left) (c .before .if2 .left))
 
 same-length : tie.Need-same-length
 same-length c = search needs
@@ -43,7 +39,7 @@ same-length c = search needs
 returns-3 : tie.Need-returns-3
 returns-3 c =
     let r = c .before .before .before .before .before .before .before .before .before in
-    rename-by _ _ (sized r) (r .read .ensures) _ _ (c .before .before .before .before .before .before .before .before .before .before .before .before .before .args .out .now) _ (c .before .before .before .before .before .before .name-verdict .ensures) (c .before .before .before .before .before .before .before .if1 .left) (c .before .before .before .before .if2 .left) _ _ (c .before .before .write-form .ensures)
+    rename-by _ _ (r .read .ensures) _ _ (c .before .before .before .before .before .before .before .before .before .before .before .before .before .args .out .now) _ (c .before .before .before .before .before .before .name-verdict .ensures) (c .before .before .before .before .before .before .before .if1 .left) (c .before .before .before .before .if2 .left) _ _ (c .before .before .write-form .ensures)
 
 pub layout-rename-spec : {M : Type 1} → statement M
 layout-rename-spec =

@@ -1,16 +1,11 @@
 -- `layoutform::layout_rewrite` meets its contract. Assumes nothing.
 use mathlib.Core.List.{[]}
-use mathlib.Core.Path.{_≡_}
 use native.Mathlib.Omega.{arith}
-use lib.ListN.{length}
 use Rattle.layoutform.proofs.AnswerLaws.{rewrite-refused, own-short, rewrite-by}
+use Rattle.layout.proofs.AnsweredLaws.{answered}
 use borrow.Author.Needs.{needs}
 use Rattle.layoutform.proofs.layout_rewrite.Statement.{statement}
 use Rattle.layoutform.proofs.layout_rewrite.Tie as tie
-
--- the array has its places
-sized : (c : tie.After-read) → length (c .read .result .starts) ≡ 192
-sized c = search needs
 
 read-requires : tie.Need-read-requires
 read-requires c κs = search needs
@@ -19,7 +14,7 @@ refused-form-requires : tie.Need-refused-form-requires
 refused-form-requires c κs = search needs
 
 returns : tie.Need-returns
-returns c = let r = c .before .before .before in rewrite-refused _ _ (sized r) (r .read .ensures) _ _ (c .before .if1 .taken) _ (c .refused-form .ensures)
+returns c = let r = c .before .before .before in rewrite-refused _ _ (r .read .ensures) _ _ (c .before .if1 .taken) _ (c .refused-form .ensures)
 
 slice-aggregate-write-form : tie.Need-slice-aggregate-write-form
 slice-aggregate-write-form c = search needs
@@ -27,7 +22,7 @@ slice-aggregate-write-form c = search needs
 write-form-requires : tie.Need-write-form-requires
 write-form-requires c κs =
     let r = c .before .before .before .before in
-    ((r .read .ensures .held, omega arith), own-short _ _ (sized r) (r .read .ensures) _)
+    ((answered _ _ (r .read .ensures) .held, omega arith), own-short _ _ (r .read .ensures) _)
 
 same-length : tie.Need-same-length
 same-length c = search needs
@@ -36,7 +31,7 @@ returns-2 : tie.Need-returns-2
 returns-2 c =
     let g = c .before .before .before .before .before .before .before .before .before .before in
     let r = c .before .before .before .before .before .before .before in
-    rewrite-by _ _ (sized r) (r .read .ensures) [] _ _ (g .args .out .now) (c .before .before .before .before .before .if1 .left) (c .before .before .write-form .ensures)
+    rewrite-by _ _ (r .read .ensures) [] _ _ (g .args .out .now) (c .before .before .before .before .before .if1 .left) (c .before .before .write-form .ensures)
 
 pub layout-rewrite-spec : {M : Type 1} → statement M
 layout-rewrite-spec =

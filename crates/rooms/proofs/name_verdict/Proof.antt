@@ -1,18 +1,14 @@
 -- `rooms::name_verdict` meets its contract. Assumes nothing.
-use mathlib.Core.Path.{_≡_, sym, _∙_}
+use mathlib.Core.Path.{sym, _∙_}
 use native.Mathlib.Omega.{arith}
-use lib.ListN.{length}
+use Rattle.layout.proofs.AnsweredLaws.{answered}
 use borrow.Author.Needs.{needs}
 use Rattle.rooms.proofs.RoomLaws.{rooms-have-names, name-21, name-34, name-37}
 use Rattle.rooms.proofs.name_verdict.Statement.{statement}
 use Rattle.rooms.proofs.name_verdict.Tie as tie
 
--- the array has its places
-sized : (g : tie.Start) → length (g .args .r .starts) ≡ 192
-sized g = search needs
-
 returns : tie.Need-returns
-returns c = let g = c .before .before .before in name-21 _ _ (sized g) (g .pre) _ _ (c .if1 .taken)
+returns c = let g = c .before .before .before in name-21 _ _ (g .pre) _ _ (c .if1 .taken)
 
 is-name-requires : tie.Need-is-name-requires
 is-name-requires c κs = search needs
@@ -23,7 +19,7 @@ slice-aggregate-is-known c = search needs
 is-known-requires : tie.Need-is-known-requires
 is-known-requires c κs =
     let g = c .before .before .before .before .before .before .before in
-    (omega (arith, sized g, g .pre .held .few-rooms), (sym (c .before .before .before .is-name .ensures) ∙ c .before .before .if2 .taken, rooms-have-names _ _ (sized g) (g .pre)))
+    (omega (arith, answered _ _ (g .pre) .sized, answered _ _ (g .pre) .held .few-rooms), (sym (c .before .before .before .is-name .ensures) ∙ c .before .before .if2 .taken, rooms-have-names _ _ (g .pre)))
 
 first-rule-requires : tie.Need-first-rule-requires
 first-rule-requires c κs = search needs
@@ -31,10 +27,10 @@ first-rule-requires c κs = search needs
 returns-2 : tie.Need-returns-2
 returns-2 c =
     let g = c .before .before .before .before .before .before .before .before .before in
-    c .first-rule .ensures ∙ name-37 _ _ (sized g) (g .pre) _ _ (c .before .before .before .before .before .before .if1 .left) _ (sym (c .before .before .before .before .before .is-name .ensures) ∙ c .before .before .before .before .if2 .taken) (c .before .is-known .ensures)
+    c .first-rule .ensures ∙ name-37 _ _ (g .pre) _ _ (c .before .before .before .before .before .before .if1 .left) _ (sym (c .before .before .before .before .before .is-name .ensures) ∙ c .before .before .before .before .if2 .taken) (c .before .is-known .ensures)
 
 returns-3 : tie.Need-returns-3
-returns-3 c = let g = c .before .before .before .before .before in name-34 _ _ (sized g) (g .pre) _ _ (c .before .before .if1 .left) (sym (c .before .is-name .ensures) ∙ c .if2 .left)
+returns-3 c = let g = c .before .before .before .before .before in name-34 _ _ (g .pre) _ _ (c .before .before .if1 .left) (sym (c .before .is-name .ensures) ∙ c .if2 .left)
 
 pub name-verdict-spec : {M : Type 1} → statement M
 name-verdict-spec =

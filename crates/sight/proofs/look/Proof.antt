@@ -1,16 +1,11 @@
 -- `sight::look` meets its contract. Assumes nothing.
-use mathlib.Core.Path.{_≡_, sym, ap, _∙_}
-use lib.ListN.{length}
+use mathlib.Core.Path.{sym, ap, _∙_}
 use Rattle.verdict.specs.declared.Answer.{Answer}
 use Rattle.text.proofs.SoundLaws.{sound-length}
 use Rattle.sight.proofs.AnswerLaws.{unsound, sound, kept}
 use borrow.Author.Needs.{needs}
 use Rattle.sight.proofs.look.Statement.{statement}
 use Rattle.sight.proofs.look.Tie as tie
-
--- the array has its places
-sized : (g : tie.Start) → length (g .args .r .starts) ≡ 192
-sized g = search needs
 
 sound-verdict-requires : tie.Need-sound-verdict-requires
 sound-verdict-requires c κs = search needs
@@ -19,16 +14,16 @@ refused-sight-requires : tie.Need-refused-sight-requires
 refused-sight-requires c κs = search needs
 
 returns : tie.Need-returns
-returns c = let g = c .before .before .before .before .before .before in c .refused-sight .ensures ∙ unsound _ _ _ (sized g) (g .pre .0) _ (g .pre .1) (c .before .before .before .sound-verdict .ensures) (c .before .if1 .taken)
+returns c = let g = c .before .before .before .before .before .before in c .refused-sight .ensures ∙ unsound _ _ _ (g .pre .0) _ (g .pre .1) (c .before .before .before .sound-verdict .ensures) (c .before .if1 .taken)
 
 slice-aggregate-read-lines : tie.Need-slice-aggregate-read-lines
 slice-aggregate-read-lines c = search needs
 
 read-lines-requires : tie.Need-read-lines-requires
-read-lines-requires c κs = let g = c .before .before .before .before .before .before .before in (sound-length _ (sym (ap (λ (a : Answer). a .number) (c .before .before .before .before .sound-verdict .ensures)) ∙ c .before .before .if1 .left), kept _ (g .args .s .now) _ (sized g) (g .pre .0))
+read-lines-requires c κs = let g = c .before .before .before .before .before .before .before in (sound-length _ (sym (ap (λ (a : Answer). a .number) (c .before .before .before .before .sound-verdict .ensures)) ∙ c .before .before .if1 .left), kept _ (g .args .s .now) _ (g .pre .0))
 
 returns-2 : tie.Need-returns-2
-returns-2 c = let g = c .before .before .before .before .before .before .before .before in sound _ _ _ (sized g) (g .pre .0) _ _ (g .pre .1) (c .before .before .before .before .before .sound-verdict .ensures) (c .before .before .before .if1 .left) (c .read-lines .ensures)
+returns-2 c = let g = c .before .before .before .before .before .before .before .before in sound _ _ _ (g .pre .0) _ _ (g .pre .1) (c .before .before .before .before .before .sound-verdict .ensures) (c .before .before .before .if1 .left) (c .read-lines .ensures)
 
 pub look-spec : {M : Type 1} → statement M
 look-spec =

@@ -1,14 +1,9 @@
 -- `sight::read` meets its contract. Assumes nothing.
-use mathlib.Core.Path.{_≡_, _∙_}
-use lib.ListN.{length}
+use mathlib.Core.Path.{_∙_}
 use Rattle.sight.proofs.AnswerLaws.{unread}
 use borrow.Author.Needs.{needs}
 use Rattle.sight.proofs.read.Statement.{statement}
 use Rattle.sight.proofs.read.Tie as tie
-
--- the array has its places
-sized : (c : tie.After-read) → length (c .read .result .starts) ≡ 192
-sized c = search needs
 
 read-requires : tie.Need-read-requires
 read-requires c κs = search needs
@@ -17,7 +12,7 @@ refused-sight-requires : tie.Need-refused-sight-requires
 refused-sight-requires c κs = search needs
 
 returns : tie.Need-returns
-returns c = let r = c .before .before .before in c .refused-sight .ensures ∙ unread _ _ _ (sized r) (r .read .ensures) (c .before .if1 .taken)
+returns c = let r = c .before .before .before in c .refused-sight .ensures ∙ unread _ _ _ (r .read .ensures) (c .before .if1 .taken)
 
 look-requires : tie.Need-look-requires
 look-requires c κs = search needs

@@ -19,7 +19,7 @@ refused-form-requires : tie.Need-refused-form-requires
 refused-form-requires c κs = search needs
 
 returns : tie.Need-returns
-returns c = rename-unread _ _ _ (sized (c .before .before .before)) (c .before .before .before .read .ensures) (c .before .before .before .before .before .before .before .before .args .out .now) _ _ (c .before .if1 .taken) _ (c .refused-form .ensures)
+returns c = rename-unread _ _ _ (c .before .before .before .read .ensures) (c .before .before .before .before .before .before .before .before .args .out .now) _ _ (c .before .if1 .taken) _ (c .refused-form .ensures)
 
 look-requires : tie.Need-look-requires
 look-requires c κs = search needs
@@ -28,7 +28,7 @@ refused-form-requires-2 : tie.Need-refused-form-requires-2
 refused-form-requires-2 c κs = search needs
 
 returns-2 : tie.Need-returns-2
-returns-2 c = rename-refused _ _ _ (sized (c .before .before .before .before .before .before)) (c .before .before .before .before .before .before .read .ensures) (c .before .before .before .before .before .before .before .before .before .before .before .args .out .now) _ (c .before .before .before .look .ensures) _ _ (c .before .if2 .taken) _ (c .refused-form2 .ensures)
+returns-2 c = rename-refused _ _ _ (c .before .before .before .before .before .before .read .ensures) (c .before .before .before .before .before .before .before .before .before .before .before .args .out .now) _ (c .before .before .before .look .ensures) _ _ (c .before .if2 .taken) _ (c .refused-form2 .ensures)
 
 name-verdict-requires : tie.Need-name-verdict-requires
 name-verdict-requires c κs = search needs
@@ -37,7 +37,7 @@ refused-form-requires-3 : tie.Need-refused-form-requires-3
 refused-form-requires-3 c κs = search needs
 
 returns-3 : tie.Need-returns-3
-returns-3 c = rename-unnamed _ _ _ (sized (c .before .before .before .before .before .before .before .before .before)) (c .before .before .before .before .before .before .before .before .before .read .ensures) (c .before .before .before .before .before .before .before .before .before .before .before .before .before .before .args .out .now) _ (c .before .before .before .before .before .before .look .ensures) _ _ _ (c .before .before .before .name-verdict .ensures) (c .before .before .before .before .if2 .left) (c .before .if3 .taken) _ (c .refused-form3 .ensures)
+returns-3 c = rename-unnamed _ _ _ (c .before .before .before .before .before .before .before .before .before .read .ensures) (c .before .before .before .before .before .before .before .before .before .before .before .before .before .before .args .out .now) _ (c .before .before .before .before .before .before .look .ensures) _ _ _ (c .before .before .before .name-verdict .ensures) (c .before .before .before .before .if2 .left) (c .before .if3 .taken) _ (c .refused-form3 .ensures)
 
 slice-aggregate-write-form : tie.Need-slice-aggregate-write-form
 slice-aggregate-write-form c = sym (sized (c .before .before .before .before .before .before .before .before .before .before .before .before))
@@ -46,13 +46,13 @@ slice-aggregate-write-form-2 : tie.Need-slice-aggregate-write-form-2
 slice-aggregate-write-form-2 c = search needs
 
 write-form-requires : tie.Need-write-form-requires
-write-form-requires c κs = ((rows-sized _ _ _ (sized (c .before .before .before .before .before .before .before .before .before .before .before .before .before)) (c .before .before .before .before .before .before .before .before .before .before .before .before .before .read .ensures) (c .before .before .before .before .before .before .before .before .before .before .before .before .before .before .before .before .before .before .args .out .now) _ (c .before .before .before .before .before .before .before .before .before .before .look .ensures), rename-name _ _ (sized (c .before .before .before .before .before .before .before .before .before .before .before .before .before)) (c .before .before .before .before .before .before .before .before .before .before .before .before .before .read .ensures) _ _ (c .before .before .before .before .before .before .before .before .before .before .before .before .before .before .before .before .before .before .args .out .now) _ (c .before .before .before .before .before .before .before .name-verdict .ensures) (c .before .before .before .before .before .before .before .before .before .before .before .if1 .left) (c .before .before .before .before .before .if3 .left)), kept _ (c .before .before .before .before .before .before .before .before .before .before .before .before .before .before .before .before .before .before .args .vis .now) _ (sized (c .before .before .before .before .before .before .before .before .before .before .before .before .before)) (c .before .before .before .before .before .before .before .before .before .before .before .before .before .read .ensures))
+write-form-requires c κs = ((rows-sized _ _ _ (c .before .before .before .before .before .before .before .before .before .before .before .before .before .read .ensures) (c .before .before .before .before .before .before .before .before .before .before .before .before .before .before .before .before .before .before .args .out .now) _ (c .before .before .before .before .before .before .before .before .before .before .look .ensures), rename-name _ _ (c .before .before .before .before .before .before .before .before .before .before .before .before .before .read .ensures) _ _ (c .before .before .before .before .before .before .before .before .before .before .before .before .before .before .before .before .before .before .args .out .now) _ (c .before .before .before .before .before .before .before .name-verdict .ensures) (c .before .before .before .before .before .before .before .before .before .before .before .if1 .left) (c .before .before .before .before .before .if3 .left)), kept _ (c .before .before .before .before .before .before .before .before .before .before .before .before .before .before .before .before .before .before .args .vis .now) _ (c .before .before .before .before .before .before .before .before .before .before .before .before .before .read .ensures))
 
 same-length : tie.Need-same-length
 same-length c = search needs
 
 returns-4 : tie.Need-returns-4
-returns-4 c = rename-by _ _ _ (sized (c .before .before .before .before .before .before .before .before .before .before .before .before .before .before .before .before)) (c .before .before .before .before .before .before .before .before .before .before .before .before .before .before .before .before .read .ensures) (c .before .before .before .before .before .before .before .before .before .before .before .before .before .before .before .before .before .before .before .before .before .args .out .now) _ (c .before .before .before .before .before .before .before .before .before .before .before .before .before .look .ensures) _ _ _ (c .before .before .before .before .before .before .before .before .before .before .name-verdict .ensures) (c .before .before .before .before .before .before .before .before .before .before .before .if2 .left) _ _ (c .before .before .before .before .before .before .before .before .if3 .left) (c .before .before .write-form .ensures)
+returns-4 c = rename-by _ _ _ (c .before .before .before .before .before .before .before .before .before .before .before .before .before .before .before .before .read .ensures) (c .before .before .before .before .before .before .before .before .before .before .before .before .before .before .before .before .before .before .before .before .before .args .out .now) _ (c .before .before .before .before .before .before .before .before .before .before .before .before .before .look .ensures) _ _ _ (c .before .before .before .before .before .before .before .before .before .before .name-verdict .ensures) (c .before .before .before .before .before .before .before .before .before .before .before .if2 .left) _ _ (c .before .before .before .before .before .before .before .before .if3 .left) (c .before .before .write-form .ensures)
 
 pub sight-rename-spec : {M : Type 1} → statement M
 sight-rename-spec =

@@ -1,17 +1,11 @@
 -- `sightform::sight_rewrite` meets its contract. Assumes nothing.
 use mathlib.Core.List.{[]}
-use mathlib.Core.Path.{_≡_}
 use native.Mathlib.Omega.{arith}
-use lib.ListN.{length}
 use Rattle.sight.proofs.AnswerLaws.{kept}
 use Rattle.sightform.proofs.AnswerLaws.{rewrite-unread, rows-sized, rewrite-refused, rewrite-by}
 use borrow.Author.Needs.{needs}
 use Rattle.sightform.proofs.sight_rewrite.Statement.{statement}
 use Rattle.sightform.proofs.sight_rewrite.Tie as tie
-
--- the array has its places
-sized : (c : tie.After-read) → length (c .read .result .starts) ≡ 192
-sized c = search needs
 
 read-requires : tie.Need-read-requires
 read-requires c κs = search needs
@@ -20,7 +14,7 @@ refused-form-requires : tie.Need-refused-form-requires
 refused-form-requires c κs = search needs
 
 returns : tie.Need-returns
-returns c = rewrite-unread _ _ _ (sized (c .before .before .before)) (c .before .before .before .read .ensures) (c .before .before .before .before .before .before .before .args .out .now) (c .before .if1 .taken) _ (c .refused-form .ensures)
+returns c = rewrite-unread _ _ _ (c .before .before .before .read .ensures) (c .before .before .before .before .before .before .before .args .out .now) (c .before .if1 .taken) _ (c .refused-form .ensures)
 
 look-requires : tie.Need-look-requires
 look-requires c κs = search needs
@@ -29,7 +23,7 @@ refused-form-requires-2 : tie.Need-refused-form-requires-2
 refused-form-requires-2 c κs = search needs
 
 returns-2 : tie.Need-returns-2
-returns-2 c = rewrite-refused _ _ _ (sized (c .before .before .before .before .before .before)) (c .before .before .before .before .before .before .read .ensures) (c .before .before .before .before .before .before .before .before .before .before .args .out .now) _ (c .before .before .before .look .ensures) (c .before .if2 .taken) _ (c .refused-form2 .ensures)
+returns-2 c = rewrite-refused _ _ _ (c .before .before .before .before .before .before .read .ensures) (c .before .before .before .before .before .before .before .before .before .before .args .out .now) _ (c .before .before .before .look .ensures) (c .before .if2 .taken) _ (c .refused-form2 .ensures)
 
 slice-aggregate-write-form : tie.Need-slice-aggregate-write-form
 slice-aggregate-write-form c = search needs
@@ -41,13 +35,13 @@ slice-aggregate-write-form-3 : tie.Need-slice-aggregate-write-form-3
 slice-aggregate-write-form-3 c = search needs
 
 write-form-requires : tie.Need-write-form-requires
-write-form-requires c κs = ((rows-sized _ _ _ (sized (c .before .before .before .before .before .before .before .before .before .before .before)) (c .before .before .before .before .before .before .before .before .before .before .before .read .ensures) (c .before .before .before .before .before .before .before .before .before .before .before .before .before .before .before .args .out .now) _ (c .before .before .before .before .before .before .before .before .look .ensures), omega arith), kept _ (c .before .before .before .before .before .before .before .before .before .before .before .before .before .before .before .args .vis .now) _ (sized (c .before .before .before .before .before .before .before .before .before .before .before)) (c .before .before .before .before .before .before .before .before .before .before .before .read .ensures))
+write-form-requires c κs = ((rows-sized _ _ _ (c .before .before .before .before .before .before .before .before .before .before .before .read .ensures) (c .before .before .before .before .before .before .before .before .before .before .before .before .before .before .before .args .out .now) _ (c .before .before .before .before .before .before .before .before .look .ensures), omega arith), kept _ (c .before .before .before .before .before .before .before .before .before .before .before .before .before .before .before .args .vis .now) _ (c .before .before .before .before .before .before .before .before .before .before .before .read .ensures))
 
 same-length : tie.Need-same-length
 same-length c = search needs
 
 returns-3 : tie.Need-returns-3
-returns-3 c = rewrite-by _ _ _ (sized (c .before .before .before .before .before .before .before .before .before .before .before .before .before .before)) (c .before .before .before .before .before .before .before .before .before .before .before .before .before .before .read .ensures) (c .before .before .before .before .before .before .before .before .before .before .before .before .before .before .before .before .before .before .args .out .now) _ (c .before .before .before .before .before .before .before .before .before .before .before .look .ensures) [] _ _ (c .before .before .before .before .before .before .before .before .before .if2 .left) (c .before .before .write-form .ensures .0, c .before .before .write-form .ensures .1)
+returns-3 c = rewrite-by _ _ _ (c .before .before .before .before .before .before .before .before .before .before .before .before .before .before .read .ensures) (c .before .before .before .before .before .before .before .before .before .before .before .before .before .before .before .before .before .before .args .out .now) _ (c .before .before .before .before .before .before .before .before .before .before .before .look .ensures) [] _ _ (c .before .before .before .before .before .before .before .before .before .if2 .left) (c .before .before .write-form .ensures .0, c .before .before .write-form .ensures .1)
 
 pub sight-rewrite-spec : {M : Type 1} → statement M
 sight-rewrite-spec =
