@@ -11,9 +11,8 @@ use Rattle.text.specs.Reading.{nth}
 use Rattle.layout.specs.declared.Layout.{Layout}
 use Rattle.rooms.specs.Rooms.{roomNames}
 use Rattle.layout.specs.Starts.{keptName, layoutRead}
-use Rattle.layout.proofs.AnsweredLaws.{answered}
 use Rattle.layout.proofs.HeldLaws.{room-name}
-use Rattle.rooms.proofs.RoomLaws.{rooms-are, names-are}
+use Rattle.rooms.proofs.RoomLaws.{rooms-are, names-are, rooms-kept}
 use Rattle.caption.specs.Caption.{hasRoom, roomName, captionOf, captionNumber}
 
 -- ---- the rooms of a layout, by what the reader answered
@@ -30,12 +29,12 @@ module _ (s : List ℕ) (r : Layout) (a : r ≡ layoutRead s) where
   pub its-name : (i : ℕ) (l u : List ℕ) → i < r .rooms → l ≡ lineAt s (getD (r .starts) i 0) → u ≡ nth (words l) 0 → u ≡ roomName s i
   unfolding roomName
   its-name i l u h el eu =
-      eu ∙ rw (el, ← (names-are s r a)) (sym (room-name s (r .starts) (r .rooms) i (omega (arith, answered s r a .held .few-rooms, answered s r a .sized)) h))
+      eu ∙ rw (el, ← (names-are s r a)) (sym (room-name s (r .starts) (r .rooms) i (rooms-kept s r a .inside) h))
 
   -- the name at a kept start is the room's
   pub kept-name : (k : ℕ) → k < r .rooms → keptName s (r .starts) k ≡ roomName s k
   unfolding keptName
-  kept-name k h = rw (lt-ltb k (length (r .starts)) (omega (arith, answered s r a .held .few-rooms, answered s r a .sized))) (its-name k _ _ h refl refl)
+  kept-name k h = rw (lt-ltb k (length (r .starts)) (omega (arith, rooms-kept s r a .inside))) (its-name k _ _ h refl refl)
 
 -- ---- the visitor's text, then the house text
 

@@ -5,8 +5,8 @@ use mathlib.Core.List.{List, [], _∷_}
 use Prim.Native.Nat.{ℕ, _+_, _-_, _≤_, _<_}
 use native.Mathlib.Omega.{arith}
 use lib.Dec.{eqb}
-use lib.ListN.{length, getD, take, drop, set, length-map, length-drop}
-use lib.Seq.{length-take-le, getD-take, getD-drop}
+use lib.ListN.{length, getD, take, set, length-map}
+use lib.Seq.{length-take-le, getD-take}
 use borrow.Author.Tests.{eq-eqb, ne-eqb, lt-ltb, le-ltb}
 use Rattle.verdict.specs.Lowest.{lowest}
 use Rattle.verdict.proofs.Lists.{map-at}
@@ -16,35 +16,33 @@ use Rattle.names.specs.Name.{isName, sameName}
 use Rattle.layout.specs.declared.Progress.{Progress}
 use Rattle.text.specs.Reading.{Word, Line, nth}
 use Rattle.layout.specs.Grammar.{namesOf, known, opens, knownBut}
-use Rattle.layout.specs.Starts.{entryAt, held, Named, countIn, entered, movedTo, slotOf, kept}
+use Rattle.layout.specs.Starts.{entryAt, held, KeptEntries, countIn, entered, movedTo, slotOf, kept}
 use Rattle.verdict.proofs.Each.{Each, each-at}
 use Rattle.layout.proofs.ApartLaws.{length-names, names-at}
 use Rattle.layout.specs.Plain.{IsEntry}
 
 -- ---- how many entries are kept, and which
 
-pub held-long : (s starts : List ℕ) (from n : ℕ) → from + n ≤ length starts → length (held s starts from n) ≡ n
+pub held-long : (s starts : List ℕ) (n : ℕ) → n ≤ length starts → length (held s starts n) ≡ n
 unfolding held
-held-long s starts from n h =
-    length-map (take n (drop from starts)) (entryAt s) ∙ length-take-le n (drop from starts) (omega (arith, length-drop from starts))
+held-long s starts n h = length-map (take n starts) (entryAt s) ∙ length-take-le n starts h
 
-pub held-at : (s starts : List ℕ) (from n j : ℕ) → from + n ≤ length starts → j < n → getD (held s starts from n) j [] ≡ entryAt s (getD starts (from + j) 0)
+pub held-at : (s starts : List ℕ) (n j : ℕ) → n ≤ length starts → j < n → getD (held s starts n) j [] ≡ entryAt s (getD starts j 0)
 unfolding held
-held-at s starts from n j h l =
-    let k : length (take n (drop from starts)) ≡ n = length-take-le n (drop from starts) (omega (arith, length-drop from starts)) in
-    map-at (entryAt s) 0 [] (take n (drop from starts)) j (omega arith) ∙ rw (getD-take n (drop from starts) j 0 l, getD-drop)
+held-at s starts n j h l =
+    let k : length (take n starts) ≡ n = length-take-le n starts h in
+    map-at (entryAt s) 0 [] (take n starts) j (omega arith) ∙ rw (getD-take n starts j 0 l)
 
--- rooms are kept from 0 on
-pub room-at : (s starts : List ℕ) (n j : ℕ) → n ≤ length starts → j < n → getD (held s starts 0 n) j [] ≡ entryAt s (getD starts j 0)
-room-at s starts n j h l = let z : 0 + j ≡ j = omega arith in held-at s starts 0 n j (omega arith) l ∙ rw z
-
-pub room-name : (s starts : List ℕ) (n j : ℕ) → n ≤ length starts → j < n → getD (namesOf (held s starts 0 n)) j [] ≡ nth (entryAt s (getD starts j 0)) 0
+pub room-name : (s starts : List ℕ) (n j : ℕ) → n ≤ length starts → j < n → getD (namesOf (held s starts n)) j [] ≡ nth (entryAt s (getD starts j 0)) 0
 room-name s starts n j h l =
-    names-at (held s starts 0 n) j (omega (arith, held-long s starts 0 n (omega arith))) ∙ ap (λ (e : Line). nth e 0) (room-at s starts n j h l)
+    names-at (held s starts n) j (omega (arith, held-long s starts n h)) ∙ ap (λ (e : Line). nth e 0) (held-at s starts n j h l)
 
-pub rooms-named : (s starts : List ℕ) (n : ℕ) → n ≤ length starts → Each IsEntry (held s starts 0 n) → Named s starts n
-rooms-named s starts n h g = record {
-  name = λ j l. rw (room-at s starts n j h l) at (each-at IsEntry [] (held s starts 0 n) g j (omega (arith, held-long s starts 0 n (omega arith))) .name);
+-- entries of a layout have names
+pub kept-entries : (s starts : List ℕ) (n : ℕ) → n ≤ 64 → n ≤ length starts → Each IsEntry (held s starts n) → KeptEntries s starts n
+kept-entries s starts n few h g = record {
+  few = few;
+  inside = h;
+  name = λ j l. rw (held-at s starts n j h l) at (each-at IsEntry [] (held s starts n) g j (omega (arith, held-long s starts n h)) .name);
 }
 
 -- ---- one of them has a name
@@ -62,18 +60,18 @@ named-asked s starts l u j el eu h = rw (eu, el) h
 abbrev pub another : ℕ → Word → List Word → ℕ → Bool
 another but w names m = not (eqb m but) && sameName w (getD names m [])
 
-pub known-turn : (s starts w : List ℕ) (n but j : ℕ) (r t : Bool) → n ≤ length starts → j < n → r ≡ (not (eqb j but) && sameName w (nth (entryAt s (getD starts j 0)) 0)) → r ≡ t → another but w (namesOf (held s starts 0 n)) j ≡ t
+pub known-turn : (s starts w : List ℕ) (n but j : ℕ) (r t : Bool) → n ≤ length starts → j < n → r ≡ (not (eqb j but) && sameName w (nth (entryAt s (getD starts j 0)) 0)) → r ≡ t → another but w (namesOf (held s starts n)) j ≡ t
 known-turn s starts w n but j r t h l er et = rw (room-name s starts n j h l) (sym er ∙ et)
 
-pub known-hit : (s starts w : List ℕ) (n but j : ℕ) → n ≤ length starts → j < n → lowest j (another but w (namesOf (held s starts 0 n))) ≡ j → another but w (namesOf (held s starts 0 n)) j ≡ true → true ≡ knownBut but w (namesOf (held s starts 0 n))
+pub known-hit : (s starts w : List ℕ) (n but j : ℕ) → n ≤ length starts → j < n → lowest j (another but w (namesOf (held s starts n))) ≡ j → another but w (namesOf (held s starts n)) j ≡ true → true ≡ knownBut but w (namesOf (held s starts n))
 unfolding knownBut
 known-hit s starts w n but j h l i t =
-    any-hit (another but w (namesOf (held s starts 0 n))) j _ i t (omega (arith, length-names (held s starts 0 n), held-long s starts 0 n (omega arith)))
+    any-hit (another but w (namesOf (held s starts n))) j _ i t (omega (arith, length-names (held s starts n), held-long s starts n h))
 
-pub known-none : (s starts w : List ℕ) (n but j : ℕ) → n ≤ length starts → n ≤ j → lowest j (another but w (namesOf (held s starts 0 n))) ≡ j → false ≡ knownBut but w (namesOf (held s starts 0 n))
+pub known-none : (s starts w : List ℕ) (n but j : ℕ) → n ≤ length starts → n ≤ j → lowest j (another but w (namesOf (held s starts n))) ≡ j → false ≡ knownBut but w (namesOf (held s starts n))
 unfolding knownBut
 known-none s starts w n but j h l i =
-    any-none (another but w (namesOf (held s starts 0 n))) j _ i (omega (arith, length-names (held s starts 0 n), held-long s starts 0 n (omega arith)))
+    any-none (another but w (namesOf (held s starts n))) j _ i (omega (arith, length-names (held s starts n), held-long s starts n h))
 
 -- none is left out where there are no more than 64
 pub known-all : (w : Word) (names : List Word) → length names ≤ 64 → knownBut 64 w names ≡ known w names

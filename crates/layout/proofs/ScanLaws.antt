@@ -4,45 +4,42 @@ use mathlib.Core.List.{List, _∷_}
 use Prim.Native.Nat.{ℕ, _+_, _≤_, _<_}
 use native.Mathlib.Omega.{arith}
 use lib.Dec.{ltb}
-use lib.ListN.{length, drop, length-set}
+use lib.ListN.{length, drop, length-set, length-replicate}
 use borrow.Author.Tests.{eq-eqb, ne-eqb}
 use Rattle.verdict.specs.Verdict.{accepted}
 use Rattle.verdict.proofs.Bools.{test}
 use Rattle.letters.specs.Class.{isEnd}
 use Rattle.text.specs.Scan.{run, apart, words, lines, lineAt}
 use Rattle.text.specs.Written.{wordLines}
-use Rattle.text.proofs.SplitLaws.{line-step, line-none, line-long}
-use Rattle.text.proofs.ReadingLaws.{rest, scan-next, scan-stop}
+use Rattle.text.proofs.SplitLaws.{line-step, line-none, line-long, piece-within}
+use Rattle.text.proofs.ReadingLaws.{rest, scan-next, scan-stop, scan-end}
 use Rattle.layout.specs.declared.Progress.{Progress}
 use Rattle.layout.specs.declared.Layout.{Layout}
 use Rattle.layout.specs.Grammar.{nothing, State, start, Reading, stopped, fault, finish, layoutGrammar, readFrom}
 use Rattle.layout.specs.Layout.{grammar}
-use Rattle.layout.specs.Starts.{entryAt, held, stateOf, movedTo, slotOf, kept, startsFrom, noStarts, begun, startsOf, noLayout, Named, Held, Found}
+use Rattle.layout.specs.Starts.{entryAt, held, stateOf, movedTo, slotOf, kept, startsFrom, noStarts, begun, startsOf, noLayout, KeptEntries, Held, Found}
 use Rattle.layout.proofs.GoodLaws.{Good, good-start, good-next}
-use Rattle.layout.proofs.HeldLaws.{rooms-named}
+use Rattle.layout.proofs.HeldLaws.{kept-entries}
 use Rattle.layout.proofs.StepLaws.{Fits, step}
 
-pub scan-start : (s : List ℕ) → grammar s ≡ readFrom 0 start (rest s 0)
+scan-start : (s : List ℕ) → grammar s ≡ readFrom 0 start (rest s 0)
 unfolding grammar wordLines
 scan-start s = refl
 
-pub finish-early : (st : State) (n : ℕ) → (st .sect ≡ 6 → ⊥) → finish st n ≡ stopped 38 n
+finish-early : (st : State) (n : ℕ) → (st .sect ≡ 6 → ⊥) → finish st n ≡ stopped 38 n
 unfolding finish
 finish-early st n h = rw (ne-eqb (st .sect) 6 h)
 
-pub finish-right : (st : State) (n : ℕ) → st .sect ≡ 6 → finish st n ≡ record { verdict = accepted; typed = st .typed }
+finish-right : (st : State) (n : ℕ) → st .sect ≡ 6 → finish st n ≡ record { verdict = accepted; typed = st .typed }
 unfolding finish
 finish-right st n h = rw (eq-eqb (st .sect) 6 h)
 
 -- ---- what the code has found
 
 -- nothing is kept at the start
-pub start-state : (s starts : List ℕ) → stateOf s starts begun ≡ start
+start-state : (s starts : List ℕ) → stateOf s starts begun ≡ start
 unfolding stateOf held
 start-state s starts = refl
-
-pub start-good : (s starts : List ℕ) → Good (stateOf s starts begun)
-start-good s starts = rw (start-state s starts) good-start
 
 pub held-nothing : (s : List ℕ) (number place : ℕ) → Held s (noLayout number place) nothing
 unfolding held noLayout
@@ -55,11 +52,11 @@ held-nothing s number place = record {
   few-obstacles = omega arith;
 }
 
-pub found-stopped : (s : List ℕ) (r : Layout) (found : Reading) (f n : ℕ) → found ≡ stopped f n → (f ≡ 0 → ⊥) → r ≡ noLayout f n → Found s r found
+found-stopped : (s : List ℕ) (r : Layout) (found : Reading) (f n : ℕ) → found ≡ stopped f n → (f ≡ 0 → ⊥) → r ≡ noLayout f n → Found s r found
 unfolding noLayout
 found-stopped s r found f n e z q = rw (e, q) (record { verdict = refl; held = held-nothing s f n; starts = rw (ne-eqb f 0 z) })
 
-pub found-right : (s : List ℕ) (starts : List ℕ) (c : Progress) (r : Layout) (found : Reading) → found ≡ record { verdict = accepted; typed = stateOf s starts c .typed } → startsOf s ≡ starts → Fits c → r .number ≡ 0 → r .place ≡ 0 → r .rooms ≡ c .rooms → r .tracks ≡ c .tracks → r .obstacles ≡ c .obstacles → r .starts ≡ starts → Found s r found
+found-right : (s : List ℕ) (starts : List ℕ) (c : Progress) (r : Layout) (found : Reading) → found ≡ record { verdict = accepted; typed = stateOf s starts c .typed } → startsOf s ≡ starts → Fits c → r .number ≡ 0 → r .place ≡ 0 → r .rooms ≡ c .rooms → r .tracks ≡ c .tracks → r .obstacles ≡ c .obstacles → r .starts ≡ starts → Found s r found
 unfolding stateOf
 found-right s starts c r found e k f n p x y z q = rw e (record {
   starts = q ∙ sym k;
@@ -74,32 +71,21 @@ found-right s starts c r found e k f n p x y z q = rw e (record {
   };
 })
 
-pub kept-long : (starts : List ℕ) (c : Progress) (at : ℕ) → length (kept starts c at) ≡ length starts
+kept-long : (starts : List ℕ) (c : Progress) (at : ℕ) → length (kept starts c at) ≡ length starts
 unfolding kept
 kept-long starts c at = test (ltb 0 (c .left)) (λ h. rw h (length-set starts (slotOf c) at)) (λ h. rw h)
 
-pub done : (s starts : List ℕ) (c : Progress) → c .sect ≡ 6 → stateOf s starts c .sect ≡ 6
+done : (s starts : List ℕ) (c : Progress) → c .sect ≡ 6 → stateOf s starts c .sect ≡ 6
 unfolding stateOf
 done s starts c e = e
 
-pub not-done : (s starts : List ℕ) (c : Progress) → (c .sect ≡ 6 → ⊥) → stateOf s starts c .sect ≡ 6 → ⊥
+not-done : (s starts : List ℕ) (c : Progress) → (c .sect ≡ 6 → ⊥) → stateOf s starts c .sect ≡ 6 → ⊥
 unfolding stateOf
 not-done s starts c n e = n e
 
--- ---- a turn of the reader, at the values that the code has in hand
+-- ---- the starts: before the first line, one line more, and at the end
 
-module _ (s starts : List ℕ) (c : Progress) (n at f : ℕ) (sized : length starts ≡ 192) (fits : Fits c) (good : Good (stateOf s starts c)) (inv : grammar s ≡ readFrom n (stateOf s starts c) (rest s at)) (h : at < length s) (ef : f ≡ fault (stateOf s starts c) (entryAt s at)) where
-  pub turn-stops : (r : Layout) → (f ≡ 0 → ⊥) → r ≡ noLayout f (n + 1) → Found s r (grammar s)
-  turn-stops r z q = found-stopped s r (grammar s) f (n + 1) (inv ∙ scan-stop layoutGrammar s n at (stateOf s starts c) h (λ y. z (ef ∙ y)) ∙ rw (← ef)) z q
-
-  pub turn-more : (more l : List ℕ) (d : Progress) (e : ℕ) → f ≡ 0 → more ≡ kept starts c at → l ≡ lineAt s at → d ≡ movedTo c (words l) → e ≡ at + run (apart isEnd) (drop at s) → Fits d × (Good (stateOf s more d) × ((grammar s ≡ readFrom (n + 1) (stateOf s more d) (rest s (e + 1))) × (length more ≡ 192)))
-  turn-more more l d e z hm hl hd he =
-      let y : fault (stateOf s starts c) (entryAt s at) ≡ 0 = sym ef ∙ z in
-      let (same, fit) = step s starts c at sized fits good y in
-      rw (hd, hl, hm, same) (fit, (good-next (stateOf s starts c) (entryAt s at) good y, (inv ∙ scan-next layoutGrammar s n at e (stateOf s starts c) he h y, kept-long starts c at ∙ sized)))
-
--- the starts, one line more and at the end
-pub starts-begun : (s : List ℕ) → startsOf s ≡ startsFrom noStarts begun 0 (lines (drop 0 s))
+starts-begun : (s : List ℕ) → startsOf s ≡ startsFrom noStarts begun 0 (lines (drop 0 s))
 unfolding startsOf
 starts-begun s = refl
 
@@ -107,18 +93,72 @@ starts-line : (starts : List ℕ) (c : Progress) (at : ℕ) (l : List ℕ) (ls :
 unfolding startsFrom
 starts-line starts c at l ls = refl
 
-pub starts-more : (s starts : List ℕ) (c : Progress) (at : ℕ) (more l : List ℕ) (d : Progress) (e : ℕ) → startsOf s ≡ startsFrom starts c at (lines (drop at s)) → at < length s → more ≡ kept starts c at → l ≡ lineAt s at → d ≡ movedTo c (words l) → e ≡ at + run (apart isEnd) (drop at s) → startsOf s ≡ startsFrom more d (e + 1) (lines (drop (e + 1) s))
-starts-more s starts c at more l d e i h hm hl hd he =
+starts-more : (s starts : List ℕ) (c : Progress) (at e : ℕ) → startsOf s ≡ startsFrom starts c at (lines (drop at s)) → at < length s → e ≡ at + run (apart isEnd) (drop at s) → startsOf s ≡ startsFrom (kept starts c at) (movedTo c (words (lineAt s at))) (e + 1) (lines (drop (e + 1) s))
+starts-more s starts c at e i h he =
     let k : at + length (lineAt s at) + 1 ≡ e + 1 = omega (arith, line-long s at) in
-    i ∙ rw (line-step s at e he h) (starts-line starts c at (lineAt s at) (lines (drop (e + 1) s)) ∙ rw (hm, hd, hl, k))
+    i ∙ rw (line-step s at e he h) (starts-line starts c at (lineAt s at) (lines (drop (e + 1) s)) ∙ rw k)
 
-pub starts-done : (s starts : List ℕ) (c : Progress) (at : ℕ) → startsOf s ≡ startsFrom starts c at (lines (drop at s)) → length s ≤ at → startsOf s ≡ starts
+starts-done : (s starts : List ℕ) (c : Progress) (at : ℕ) → startsOf s ≡ startsFrom starts c at (lines (drop at s)) → length s ≤ at → startsOf s ≡ starts
 starts-done s starts c at i h = i ∙ rw (line-none s at h) (unfold startsFrom in refl)
 
-pub started : (s starts : List ℕ) → grammar s ≡ readFrom 0 (stateOf s starts begun) (rest s 0)
-started s starts = rw (start-state s starts) (scan-start s)
+-- ---- the lines from a place on
 
--- the rooms so far have names
-pub named : (s starts : List ℕ) (c : Progress) → length starts ≡ 192 → Fits c → Good (stateOf s starts c) → Named s starts (c .rooms)
+-- the reader stands before the line that starts at a place, behind so many lines: what it keeps stands for a good state, and the lines
+-- from there on say what all do, of the grammar and of the starts
+pub record Standing (s starts : List ℕ) (c : Progress) (passed at : ℕ) : Type 0 where
+  pub fits : Fits c
+  pub good : Good (stateOf s starts c)
+  pub sized : length starts ≡ 192
+  pub fewer : passed ≤ at
+  pub within : at ≤ length s + 1
+  pub same : grammar s ≡ readFrom passed (stateOf s starts c) (rest s at)
+  pub begun : startsOf s ≡ startsFrom starts c at (lines (drop at s))
+
+-- before the first line
+pub standing : (s : List ℕ) → Standing s noStarts begun 0 0
+standing s = record {
+  fits = (omega arith, (omega arith, omega arith));
+  good = rw (start-state s noStarts) good-start;
+  sized = length-replicate {A = ℕ} 192 0;
+  fewer = omega arith;
+  within = omega arith;
+  same = rw (start-state s noStarts) (scan-start s);
+  begun = starts-begun s;
+}
+
+-- a turn of the reader, at the values that the code has in hand
+module _ (s starts : List ℕ) (c : Progress) (n at f : ℕ) (inv : Standing s starts c n at) (h : at < length s) (ef : f ≡ fault (stateOf s starts c) (entryAt s at)) where
+  pub turn-stops : (r : Layout) → (f ≡ 0 → ⊥) → r ≡ noLayout f (n + 1) → Found s r (grammar s)
+  turn-stops r z q = found-stopped s r (grammar s) f (n + 1) (inv .same ∙ scan-stop layoutGrammar s n at (stateOf s starts c) h (λ y. z (ef ∙ y)) ∙ rw (← ef)) z q
+
+  pub turn-more : (more l : List ℕ) (d : Progress) (e : ℕ) → f ≡ 0 → more ≡ kept starts c at → l ≡ lineAt s at → d ≡ movedTo c (words l) → e ≡ at + run (apart isEnd) (drop at s) → Standing s more d (n + 1) (e + 1)
+  turn-more more l d e z hm hl hd he =
+      let y : fault (stateOf s starts c) (entryAt s at) ≡ 0 = sym ef ∙ z in
+      let (same, fit) = step s starts c at (inv .sized) (inv .fits) (inv .good) y in
+      let ends = piece-within isEnd s at e he (omega arith) in
+      rw (hd, hl, hm) (record {
+        fits = fit;
+        good = rw same (good-next (stateOf s starts c) (entryAt s at) (inv .good) y);
+        sized = kept-long starts c at ∙ inv .sized;
+        fewer = omega (arith, inv .fewer, ends);
+        within = omega (arith, ends);
+        same = rw same (inv .same ∙ scan-next layoutGrammar s n at e (stateOf s starts c) he h y);
+        begun = starts-more s starts c at e (inv .begun) h he;
+      })
+
+-- no line is left
+module _ (s starts : List ℕ) (c : Progress) (n at : ℕ) (inv : Standing s starts c n at) (h : length s ≤ at) where
+  over : grammar s ≡ finish (stateOf s starts c) n
+  over = inv .same ∙ scan-end layoutGrammar s n at (stateOf s starts c) h
+
+  pub ends-early : (r : Layout) → (c .sect ≡ 6 → ⊥) → r ≡ noLayout 38 n → Found s r (grammar s)
+  ends-early r z q = found-stopped s r (grammar s) 38 n (over ∙ finish-early (stateOf s starts c) n (not-done s starts c z)) (λ y. omega arith) q
+
+  pub ends-right : c .sect ≡ 6 → Found s (record { number = 0; place = 0; rooms = c .rooms; tracks = c .tracks; obstacles = c .obstacles; starts = starts }) (grammar s)
+  ends-right z =
+      found-right s starts c _ (grammar s) (over ∙ finish-right (stateOf s starts c) n (done s starts c z)) (starts-done s starts c at (inv .begun) h) (inv .fits) refl refl refl refl refl refl
+
+-- the rooms so far are kept
+pub kept-rooms : (s starts : List ℕ) (c : Progress) (n at : ℕ) → Standing s starts c n at → KeptEntries s starts (c .rooms)
 unfolding stateOf
-named s starts c sized fits good = rooms-named s starts (c .rooms) (omega (arith, fits)) (good .rooms)
+kept-rooms s starts c n at inv = kept-entries s starts (c .rooms) (inv .fits .0) (omega (arith, inv .fits, inv .sized)) (inv .good .rooms)

@@ -17,19 +17,19 @@ use Rattle.number.specs.Count.{value, isCount}
 use Rattle.layout.specs.declared.Progress.{Progress}
 use Rattle.text.specs.Reading.{Word, Line, nth}
 use Rattle.layout.specs.Grammar.{withEntry, opens, wordsOf, openFault, fault, next}
-use Rattle.layout.specs.Starts.{entryAt, held, stateOf, countIn, entered, movedTo, slotOf, kept}
+use Rattle.layout.specs.Starts.{entryAt, held, trackStarts, obstacleStarts, stateOf, countIn, entered, movedTo, slotOf, kept}
 use Rattle.layout.proofs.GoodLaws.{Good, open-words, open-count, count-right}
 use Rattle.layout.proofs.HeldLaws.{held-long, slot-room, slot-track, slot-obstacle}
 
 -- ---- a start stored behind the n of its kind, and one stored elsewhere
 
-held-more : (s starts : List ℕ) (at from n : ℕ) → from + n < length starts → held s (set starts (from + n) at) from (n + 1) ≡ held s starts from n ++ (entryAt s at ∷ [])
+held-more : (s starts : List ℕ) (at from n : ℕ) → from + n < length starts → held s (drop from (set starts (from + n) at)) (n + 1) ≡ held s (drop from starts) n ++ (entryAt s at ∷ [])
 unfolding held
 held-more s starts at from n h =
     rw (drop-set-add from starts n at, add-one n, take-suc-set (drop from starts) n at (omega (arith, length-drop from starts)))
     (map-append (entryAt s) (take n (drop from starts)) (at ∷ []))
 
-held-other : (s starts : List ℕ) (at p from n : ℕ) → (p < from) ⊎ (from + n ≤ p) → held s (set starts p at) from n ≡ held s starts from n
+held-other : (s starts : List ℕ) (at p from n : ℕ) → (p < from) ⊎ (from + n ≤ p) → held s (drop from (set starts p at)) n ≡ held s (drop from starts) n
 unfolding held
 held-other s starts at p from n q =
     ⊎-elim (λ (l : p < from). rw (drop-set-lt from starts p at l))
@@ -37,7 +37,7 @@ held-other s starts at p from n q =
     let d : p ≡ from + (p - from) = omega arith in
     rw (d, drop-set-add from starts (p - from) at, take-set-le n (drop from starts) (p - from) at (omega arith))) q
 
-column : (s starts : List ℕ) (at k sect p from n : ℕ) → from + 64 ≤ length starts → (sect ≡ k → (p ≡ from + n) × (n < 64)) → (p < from) ⊎ (from + n ≤ p) → held s (set starts p at) from (cond (eqb sect k) (n + 1) n) ≡ cond (eqb sect k) (held s starts from n ++ (entryAt s at ∷ [])) (held s starts from n)
+column : (s starts : List ℕ) (at k sect p from n : ℕ) → from + 64 ≤ length starts → (sect ≡ k → (p ≡ from + n) × (n < 64)) → (p < from) ⊎ (from + n ≤ p) → held s (drop from (set starts p at)) (cond (eqb sect k) (n + 1) n) ≡ cond (eqb sect k) (held s (drop from starts) n ++ (entryAt s at ∷ [])) (held s (drop from starts) n)
 column s starts at k sect p from n h own side =
     test (eqb sect k)
     (λ (e : eqb sect k ≡ true).
@@ -84,15 +84,15 @@ module _ (s starts : List ℕ) (c : Progress) (sized : length starts ≡ 192) (f
   kept-spot : 0 < c .left → Spot c (slotOf c)
   unfolding stateOf
   kept-spot h =
-      spot c f h (g .kind h) (λ e. omega (arith, g .slot2 .here e, held-long s starts 0 (c .rooms) (omega arith)))
-      (λ e. omega (arith, g .slot3 .here e, held-long s starts 64 (c .tracks) (omega arith)))
-      (λ e. omega (arith, g .slot4 .here e, held-long s starts 128 (c .obstacles) (omega arith)))
+      spot c f h (g .kind h) (λ e. omega (arith, g .slot2 .here e, held-long s starts (c .rooms) (omega arith)))
+      (λ e. omega (arith, g .slot3 .here e, held-long s (trackStarts starts) (c .tracks) (omega (arith, length-drop 64 starts))))
+      (λ e. omega (arith, g .slot4 .here e, held-long s (obstacleStarts starts) (c .obstacles) (omega (arith, length-drop 128 starts))))
 
   pub slot-inside : 0 < c .left → slotOf c < 192
   slot-inside h = kept-spot h .inside
 
-  pub few-rooms : length (held s starts 0 (c .rooms)) ≤ 64
-  few-rooms = omega (arith, held-long s starts 0 (c .rooms) (omega arith))
+  pub few-rooms : length (held s starts (c .rooms)) ≤ 64
+  few-rooms = omega (arith, held-long s starts (c .rooms) (omega arith))
 
   -- a blank line
   blank-step : (at : ℕ) → stateOf s (kept starts c at) c ≡ stateOf s starts c

@@ -20,16 +20,21 @@ use Rattle.layout.specs.Layout.{layoutVerdict, layoutOf}
 abbrev pub entryAt : List ℕ → ℕ → Line
 entryAt s at = words (lineAt s at)
 
--- the n entries whose starts are kept from a place on
-unfoldable pub held : List ℕ → List ℕ → ℕ → ℕ → List Line
-held s starts from n = map (entryAt s) (take n (drop from starts))
+-- the first n of the entries whose starts are kept
+unfoldable pub held : List ℕ → List ℕ → ℕ → List Line
+held s starts n = map (entryAt s) (take n starts)
 
--- the n entries whose starts are kept from a place on have names
-pub record NamedFrom (s starts : List ℕ) (from n : ℕ) : Type 0 where
-  pub name : (j : ℕ) → j < n → isName (nth (entryAt s (getD starts (from + j) 0)) 0) ≡ true
+-- the starts of the tracks, and of the obstacles, among all that are kept
+abbrev pub trackStarts : List ℕ → List ℕ
+trackStarts starts = drop 64 starts
 
--- the first n entries have names
-pub record Named (s starts : List ℕ) (n : ℕ) : Type 0 where
+abbrev pub obstacleStarts : List ℕ → List ℕ
+obstacleStarts starts = drop 128 starts
+
+-- n entries whose starts are kept: at most 64, none past the starts, and each has a name
+pub record KeptEntries (s starts : List ℕ) (n : ℕ) : Type 0 where
+  pub few : n ≤ 64
+  pub inside : n ≤ length starts
   pub name : (j : ℕ) → j < n → isName (nth (entryAt s (getD starts j 0)) 0) ≡ true
 
 -- the name of the entry whose start is kept at k, nothing where none is
@@ -41,7 +46,11 @@ unfoldable pub stateOf : List ℕ → List ℕ → Progress → State
 stateOf s starts c = record {
   sect = c .sect;
   left = c .left;
-  typed = record { rooms = held s starts 0 (c .rooms); tracks = held s starts 64 (c .tracks); obstacles = held s starts 128 (c .obstacles) };
+  typed = record {
+    rooms = held s starts (c .rooms);
+    tracks = held s (trackStarts starts) (c .tracks);
+    obstacles = held s (obstacleStarts starts) (c .obstacles);
+  };
 }
 
 -- what a count says, 0 where it is none
@@ -107,9 +116,9 @@ layoutRead s = record {
 
 -- the code's counts and starts are those of a layout's entries
 pub record Held (s : List ℕ) (r : Layout) (t : Typed) : Type 0 where
-  pub rooms : held s (r .starts) 0 (r .rooms) ≡ t .rooms
-  pub tracks : held s (r .starts) 64 (r .tracks) ≡ t .tracks
-  pub obstacles : held s (r .starts) 128 (r .obstacles) ≡ t .obstacles
+  pub rooms : held s (r .starts) (r .rooms) ≡ t .rooms
+  pub tracks : held s (trackStarts (r .starts)) (r .tracks) ≡ t .tracks
+  pub obstacles : held s (obstacleStarts (r .starts)) (r .obstacles) ≡ t .obstacles
   pub few-rooms : r .rooms ≤ 64
   pub few-tracks : r .tracks ≤ 64
   pub few-obstacles : r .obstacles ≤ 64

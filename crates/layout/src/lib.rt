@@ -8,7 +8,7 @@ ghost use lib.ListN.{length};
 ghost use Rattle.names.specs.Name.{isName};
 ghost use Rattle.layout.specs.Grammar.{namesOf, knownBut};
 ghost use Rattle.layout.specs.Layout.{grammar};
-ghost use Rattle.layout.specs.Starts.{held, Named, noLayout, Found, layoutRead};
+ghost use Rattle.layout.specs.Starts.{held, KeptEntries, noLayout, Found, layoutRead};
 
 mod lines;
 
@@ -101,8 +101,8 @@ pub fn read(s: &[u8]) -> Layout
 
 // One of the first n entries, another than `but`, has this name.
 pub fn is_known(s: &[u8], starts: &[usize], n: usize, but: usize, w: &[u8]) -> bool
-    requires { ⌜ (n ≤ length (now starts)) × ((isName (now w) ≡ true) × Named (now s) (now starts) n) ⌝ }
-    ensures { λ r. ⌜ r ≡ knownBut but (now (w .entry)) (namesOf (held (now (s .entry)) (now (starts .entry)) 0 n)) ⌝ }
+    requires { ⌜ KeptEntries (now s) (now starts) n × (isName (now w) ≡ true) ⌝ }
+    ensures { λ r. ⌜ r ≡ knownBut but (now (w .entry)) (namesOf (held (now (s .entry)) (now (starts .entry)) n)) ⌝ }
 {
     let mut j = 0;
     while j < n {

@@ -14,7 +14,7 @@ ghost use Rattle.text.specs.Scan.{words};
 ghost use Rattle.names.specs.Name.{isName, sameName};
 ghost use Rattle.text.specs.Reading.{nth};
 ghost use Rattle.layout.specs.Grammar.{sectionOf, follows, opens, placed, wordsOf, countRight, openFault, entryFault, fault};
-ghost use Rattle.layout.specs.Starts.{entryAt, stateOf, countIn, entered, movedTo, slotOf, kept, Named};
+ghost use Rattle.layout.specs.Starts.{entryAt, stateOf, countIn, entered, movedTo, slotOf, kept, KeptEntries};
 
 // The section that a keyword opens, 0 for no keyword.
 pub(crate) fn section_of(w: &[u8]) -> usize
@@ -150,7 +150,7 @@ pub(crate) fn is_named(s: &[u8], starts: &[usize], j: usize, but: usize, w: &[u8
 
 // What is wrong with an entry. Only rooms are checked for 37.
 pub(crate) fn entry_fault(s: &[u8], starts: &[usize], st: Progress, l: &[u8]) -> u32
-    requires { ⌜ (length (now starts) ≡ 192) × ((st .rooms ≤ 64) × Named (now s) (now starts) (st .rooms)) ⌝ }
+    requires { ⌜ KeptEntries (now s) (now starts) (st .rooms) ⌝ }
     ensures { λ r. ⌜ r ≡ entryFault (stateOf (now (s .entry)) (now (starts .entry)) st) (words (now (l .entry))) ⌝ }
 {
     if word_count(l) != 4 {
@@ -175,7 +175,7 @@ pub(crate) fn entry_fault(s: &[u8], starts: &[usize], st: Progress, l: &[u8]) ->
 
 // What is wrong with the line that starts at a place; nothing if it is blank.
 pub(crate) fn line_fault(s: &[u8], starts: &[usize], st: Progress, at: usize) -> u32
-    requires { ⌜ (length (now starts) ≡ 192) × ((st .rooms ≤ 64) × Named (now s) (now starts) (st .rooms)) ⌝ }
+    requires { ⌜ KeptEntries (now s) (now starts) (st .rooms) ⌝ }
     ensures { λ r. ⌜ r ≡ fault (stateOf (now (s .entry)) (now (starts .entry)) st) (entryAt (now (s .entry)) at) ⌝ }
 {
     let l = line_at(s, at);

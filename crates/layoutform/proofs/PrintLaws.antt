@@ -25,7 +25,7 @@ use Rattle.printer.proofs.WriteLaws.{wrote-none, wrote-then, wrote-is}
 use Rattle.text.specs.Reading.{Word, Line, nth}
 use Rattle.layoutform.specs.Form.{Entry, entryNamed, entryOf, entryLine, section}
 use Rattle.layoutform.specs.Rewrite.{renamedAt}
-use Rattle.layout.specs.Starts.{entryAt, held, NamedFrom}
+use Rattle.layout.specs.Starts.{entryAt, held, KeptEntries}
 use Rattle.layout.proofs.HeldLaws.{held-long, held-at}
 use Rattle.layoutform.proofs.LengthLaws.{numbers-short, number-short}
 use Rattle.layoutform.proofs.RenameLaws.{renamed-long, renamed-here, renamed-other}
@@ -77,39 +77,39 @@ either-short false v w h k = k
 
 -- ---- the entries of a section
 
-module _ (s starts : List ℕ) (from n i : ℕ) (name : Word) (room : from + n ≤ length starts) (named : NamedFrom s starts from n) (short : length name ≤ 16) where
+module _ (s starts : List ℕ) (n i : ℕ) (name : Word) (kept : KeptEntries s starts n) (short : length name ≤ 16) where
   -- the entries that are written
   abbrev es : List Entry
-  es = renamedAt (map entryOf (held s starts from n)) i (lowered name)
+  es = renamedAt (map entryOf (held s starts n)) i (lowered name)
 
   pub entries-long : length es ≡ n
-  entries-long = renamed-long (map entryOf (held s starts from n)) i (lowered name) ∙ length-map (held s starts from n) entryOf ∙ held-long s starts from n room
+  entries-long = renamed-long (map entryOf (held s starts n)) i (lowered name) ∙ length-map (held s starts n) entryOf ∙ held-long s starts n (kept .inside)
 
-  own-short : (j : ℕ) → j < n → length (nth (entryAt s (getD starts (from + j) 0)) 0) ≤ 16
-  own-short j l = name-long _ (named .name j l) .1
+  own-short : (j : ℕ) → j < n → length (nth (entryAt s (getD starts j 0)) 0) ≤ 16
+  own-short j l = name-long _ (kept .name j l) .1
 
-  pub asked-short : (j : ℕ) (l : List ℕ) → j < n → l ≡ lineAt s (getD starts (from + j) 0) → length (nth (words l) 0) ≤ 16
+  pub asked-short : (j : ℕ) (l : List ℕ) → j < n → l ≡ lineAt s (getD starts j 0) → length (nth (words l) 0) ≤ 16
   asked-short j l h e = rw e (own-short j h)
 
-  own : (j : ℕ) → j < n → getD (map entryOf (held s starts from n)) j (entryOf []) ≡ entryOf (entryAt s (getD starts (from + j) 0))
-  own j h = map-at entryOf [] (entryOf []) (held s starts from n) j (omega (arith, held-long s starts from n room)) ∙ ap entryOf (held-at s starts from n j room h)
+  own : (j : ℕ) → j < n → getD (map entryOf (held s starts n)) j (entryOf []) ≡ entryOf (entryAt s (getD starts j 0))
+  own j h = map-at entryOf [] (entryOf []) (held s starts n) j (omega (arith, held-long s starts n (kept .inside))) ∙ ap entryOf (held-at s starts n j (kept .inside) h)
 
   -- entry j
-  pub entry-is : (j : ℕ) (l : List ℕ) → j < n → l ≡ lineAt s (getD starts (from + j) 0) → getD es j (entryOf []) ≡ entryNamed (cond (eqb j i) name (nth (words l) 0)) (words l)
+  pub entry-is : (j : ℕ) (l : List ℕ) → j < n → l ≡ lineAt s (getD starts j 0) → getD es j (entryOf []) ≡ entryNamed (cond (eqb j i) name (nth (words l) 0)) (words l)
   unfolding entryNamed entryOf
   entry-is j l h e =
-      let k : j < length (map entryOf (held s starts from n)) = omega (arith, length-map (held s starts from n) entryOf, held-long s starts from n room) in
+      let k : j < length (map entryOf (held s starts n)) = omega (arith, length-map (held s starts n) entryOf, held-long s starts n (kept .inside)) in
       decided (ℕ-discrete j i)
       (λ (q : j ≡ i).
-      let m : i < length (map entryOf (held s starts from n)) = omega arith in
-      rw (eq-eqb j i q, e, q, renamed-here (map entryOf (held s starts from n)) i (lowered name) (entryOf []) m, ← q, own j h))
-      (λ (q : j ≡ i → ⊥). rw (ne-eqb j i q, renamed-other (map entryOf (held s starts from n)) i j (lowered name) (entryOf []) q, own j h, e))
+      let m : i < length (map entryOf (held s starts n)) = omega arith in
+      rw (eq-eqb j i q, e, q, renamed-here (map entryOf (held s starts n)) i (lowered name) (entryOf []) m, ← q, own j h))
+      (λ (q : j ≡ i → ⊥). rw (ne-eqb j i q, renamed-other (map entryOf (held s starts n)) i j (lowered name) (entryOf []) q, own j h, e))
 
   pub entries-start : (l : List ℕ) (at : ℕ) → Wrote l l at at (written (map entryLine (take 0 es)))
   unfolding ended
   entries-start l at = wrote-none l at
 
-  module _ {a b c : List ℕ} {at e k : ℕ} (j : ℕ) (l : List ℕ) (h : j < n) (el : l ≡ lineAt s (getD starts (from + j) 0)) (p : Wrote a b at e (written (map entryLine (take j es)))) (q : Wrote b c e k (written (entryLine (entryNamed (cond (eqb j i) name (nth (words l) 0)) (words l)) ∷ []))) where
+  module _ {a b c : List ℕ} {at e k : ℕ} (j : ℕ) (l : List ℕ) (h : j < n) (el : l ≡ lineAt s (getD starts j 0)) (p : Wrote a b at e (written (map entryLine (take j es)))) (q : Wrote b c e k (written (entryLine (entryNamed (cond (eqb j i) name (nth (words l) 0)) (words l)) ∷ []))) where
     pub entries-more : Wrote a c at k (written (map entryLine (take (j + 1) es)))
     entries-more =
         let m : j < length es = omega (arith, entries-long) in

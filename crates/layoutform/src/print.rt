@@ -17,7 +17,7 @@ ghost use Rattle.printer.specs.Write.{Wrote};
 ghost use Rattle.text.specs.Written.{written, rule40};
 ghost use Rattle.text.specs.Reading.{nth};
 ghost use Rattle.layout.specs.Layout.{layoutOf};
-ghost use Rattle.layout.specs.Starts.{held, NamedFrom, Held};
+ghost use Rattle.layout.specs.Starts.{held, KeptEntries, Held};
 ghost use Rattle.layoutform.specs.Form.{entryNamed, entryOf, entryLine, section};
 ghost use Rattle.layoutform.specs.Rewrite.{renamedAt, renamedForm};
 
@@ -60,19 +60,18 @@ pub(crate) fn put_entries(
     at: usize,
     s: &[u8],
     starts: &[usize],
-    from: usize,
     n: usize,
     i: usize,
     name: &[u8],
 ) -> usize
-    requires { ⌜ (at < 2 ^ 20) × ((length (now name) ≤ 16) × ((n ≤ 64) × ((from + n ≤ length (now starts)) × NamedFrom (now s) (now starts) from n))) ⌝ }
-    ensures wrote { λ r. ⌜ Wrote (now (out .entry)) (now (out .exit)) at r (written (map entryLine (renamedAt (map entryOf (held (now (s .entry)) (now (starts .entry)) from n)) i (lowered (now (name .entry)))))) ⌝ }
+    requires { ⌜ (at < 2 ^ 20) × ((length (now name) ≤ 16) × KeptEntries (now s) (now starts) n) ⌝ }
+    ensures wrote { λ r. ⌜ Wrote (now (out .entry)) (now (out .exit)) at r (written (map entryLine (renamedAt (map entryOf (held (now (s .entry)) (now (starts .entry)) n)) i (lowered (now (name .entry)))))) ⌝ }
     ensures end { λ r. ⌜ r ≤ at + 59 * n ⌝ }
 {
     let mut e = at;
     let mut j = 0;
     while j < n {
-        let l = line_at(s, starts[from + j]);
+        let l = line_at(s, starts[j]);
         e = put_one(out, e, l, j == i, name);
         j += 1;
     }
@@ -106,18 +105,17 @@ pub(crate) fn put_section(
     key: &[u8],
     s: &[u8],
     starts: &[usize],
-    from: usize,
     n: usize,
     i: usize,
     name: &[u8],
 ) -> usize
     requires small { ⌜ (at < 2 ^ 18) × ((length (now key) ≤ 13) × (length (now name) ≤ 16)) ⌝ }
-    requires kept { ⌜ (n ≤ 64) × ((from + n ≤ length (now starts)) × NamedFrom (now s) (now starts) from n) ⌝ }
-    ensures wrote { λ r. ⌜ Wrote (now (out .entry)) (now (out .exit)) at r (written (section (now (key .entry)) (renamedAt (map entryOf (held (now (s .entry)) (now (starts .entry)) from n)) i (lowered (now (name .entry)))))) ⌝ }
+    requires kept { ⌜ KeptEntries (now s) (now starts) n ⌝ }
+    ensures wrote { λ r. ⌜ Wrote (now (out .entry)) (now (out .exit)) at r (written (section (now (key .entry)) (renamedAt (map entryOf (held (now (s .entry)) (now (starts .entry)) n)) i (lowered (now (name .entry)))))) ⌝ }
     ensures end { λ r. ⌜ r ≤ at + 3796 ⌝ }
 {
     let e = put_head(out, at, key, n);
-    put_entries(out, e, s, starts, from, n, i, name)
+    put_entries(out, e, s, starts, n, i, name)
 }
 
 // The fixed form, room i with another name.
@@ -130,15 +128,14 @@ pub(crate) fn put_form(out: &mut [u8], s: &[u8], r: Layout, i: usize, name: &[u8
     let obstacles = r.obstacles;
     let starts = r.starts;
     let a = put_key(out, 0, b"beginlayout");
-    let b = put_section(out, a, b"roomcount", s, &starts, 0, rooms, i, name);
-    let c = put_section(out, b, b"trackcount", s, &starts, 64, tracks, 64, name);
+    let b = put_section(out, a, b"roomcount", s, &starts, rooms, i, name);
+    let c = put_section(out, b, b"trackcount", s, &starts[64..], tracks, 64, name);
     let d = put_section(
         out,
         c,
         b"obstaclecount",
         s,
-        &starts,
-        128,
+        &starts[128..],
         obstacles,
         64,
         name,

@@ -1,7 +1,7 @@
 -- Printers, one after the other; a dry run; and what a printer leaves. Assumes nothing.
 use mathlib.Core.Path.{_≡_, refl, sym, ap, _∙_}
 use mathlib.Core.List.{List, [], _∷_, _++_}
-use Prim.Native.Nat.{ℕ, suc, _+_, _<_, _≤_}
+use Prim.Native.Nat.{ℕ, suc, _+_, _*_, _<_, _≤_}
 use native.Mathlib.Nat.{add-zero}
 use native.Mathlib.Omega.{arith}
 use lib.ListN.{length, take, drop, set, getD, length-append}
@@ -59,3 +59,9 @@ wrote-whole {a} {b} {j} {xs} p h =
 -- the bytes that were written, said in another way
 pub wrote-is : {a b : List ℕ} {i j : ℕ} {xs : List ℕ} (ys : List ℕ) → Wrote a b i j xs → xs ≡ ys → Wrote a b i j ys
 wrote-is ys w e = rw e at w
+
+-- a printer that puts n things one after the other, at most `per` bytes each, has put the first j, which are these bytes
+pub record Printing (old new : List ℕ) (at e per j n : ℕ) (bytes : List ℕ) : Type 0 where
+  pub few : j ≤ n
+  pub bound : e ≤ at + per * j
+  pub wrote : Wrote old new at e bytes

@@ -17,25 +17,28 @@ use Rattle.text.specs.Reading.{Word, nth}
 use Rattle.layout.specs.Grammar.{namesOf, knownBut}
 use Rattle.layout.specs.Layout.{layoutVerdict, layoutOf}
 use Rattle.rooms.specs.Rooms.{roomNames, roomsOf, nameVerdict}
-use Rattle.layout.specs.Starts.{held, Named, keptName, layoutRead}
+use Rattle.layout.specs.Starts.{held, KeptEntries, keptName, layoutRead}
 use Rattle.layout.proofs.AnsweredLaws.{answered}
 use Rattle.layout.proofs.ApartLaws.{length-names}
 use Rattle.layout.proofs.ReadLaws.{layout-good, verdict-proper}
-use Rattle.layout.proofs.HeldLaws.{held-long, rooms-named}
+use Rattle.layout.proofs.HeldLaws.{held-long, kept-entries}
 
 -- ---- the rooms of a layout, by what the reader answered
 
 module _ (s : List ℕ) (r : Layout) (a : r ≡ layoutRead s) where
+  -- the reader keeps the start of each room
+  pub rooms-kept : KeptEntries s (r .starts) (r .rooms)
+  rooms-kept =
+      let h = answered s r a .held in
+      kept-entries s (r .starts) (r .rooms) (h .few-rooms) (omega (arith, h .few-rooms, answered s r a .sized)) (rw (h .rooms) (layout-good s .rooms))
+
   pub rooms-are : r .rooms ≡ length (roomNames s)
   unfolding roomNames
-  rooms-are = omega (arith, length-names (layoutOf s .rooms), ap length (answered s r a .held .rooms), held-long s (r .starts) 0 (r .rooms) (omega (arith, answered s r a .held .few-rooms, answered s r a .sized)))
+  rooms-are = omega (arith, length-names (layoutOf s .rooms), ap length (answered s r a .held .rooms), held-long s (r .starts) (r .rooms) (rooms-kept .inside))
 
-  pub names-are : namesOf (held s (r .starts) 0 (r .rooms)) ≡ roomNames s
+  pub names-are : namesOf (held s (r .starts) (r .rooms)) ≡ roomNames s
   unfolding roomNames
   names-are = ap namesOf (answered s r a .held .rooms)
-
-  pub rooms-have-names : Named s (r .starts) (r .rooms)
-  rooms-have-names = rooms-named s (r .starts) (r .rooms) (omega (arith, answered s r a .held .few-rooms, answered s r a .sized)) (rw (answered s r a .held .rooms) (layout-good s .rooms))
 
   pub verdict-is : layoutVerdict s ≡ refused (r .number) (r .place)
   verdict-is = sym (answered s r a .verdict)
@@ -62,7 +65,7 @@ module _ (s : List ℕ) (r : Layout) (a : r ≡ layoutRead s) where
       unfolding nameVerdict rule _then_
       name-34 e = rw (inside, e)
 
-      pub name-37 : (k : Bool) → isName w ≡ true → k ≡ knownBut i w (namesOf (held s (r .starts) 0 (r .rooms))) → rule 37 k 0 ≡ nameVerdict s i w
+      pub name-37 : (k : Bool) → isName w ≡ true → k ≡ knownBut i w (namesOf (held s (r .starts) (r .rooms))) → rule 37 k 0 ≡ nameVerdict s i w
       unfolding nameVerdict rule _then_
       name-37 k e ek = rw (inside, e, ek, names-are)
 

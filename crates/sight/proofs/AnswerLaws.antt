@@ -8,9 +8,8 @@ use lib.ListN.{length, getD}
 use Rattle.verdict.specs.declared.Answer.{Answer}
 use Rattle.text.specs.Sound.{rules31to32}
 use Rattle.layout.specs.declared.Layout.{Layout}
-use Rattle.layout.specs.Starts.{Named, layoutRead}
-use Rattle.layout.proofs.AnsweredLaws.{answered}
-use Rattle.rooms.proofs.RoomLaws.{names-are, verdict-is, verdict-accepts, rooms-have-names}
+use Rattle.layout.specs.Starts.{layoutRead}
+use Rattle.rooms.proofs.RoomLaws.{names-are, verdict-is, verdict-accepts}
 use Rattle.sight.specs.declared.Sight.{Sight}
 use Rattle.sight.specs.declared.Row.{Row}
 use Rattle.sight.specs.Sight.{grammar, sightOf, rowAnswer}
@@ -46,7 +45,3 @@ module _ (layout s : List ℕ) (r : Layout) (a : r ≡ layoutRead layout) where
   pub sound : (v : Answer) (w : Sight) → r .number ≡ 0 → v ≡ rules31to32 s → v .number ≡ 0 → w ≡ asRead (grammar (keptNames layout (r .starts) (r .rooms)) s) → w ≡ sightOf layout s
   sound v w y e z h =
       h ∙ rw (names-are layout r a) (sym (sight-of-sound layout s (ap (λ (v : Answer). v .number) (verdict-accepts layout r a y)) (sym (ap (λ (v : Answer). v .number) e) ∙ z)))
-
-  -- what the reader of lines and the printers ask
-  pub kept : (r .rooms ≤ 64) × ((r .rooms ≤ length (r .starts)) × Named layout (r .starts) (r .rooms))
-  kept = (answered layout r a .held .few-rooms, (omega (arith, answered layout r a .held .few-rooms, answered layout r a .sized), rooms-have-names layout r a))

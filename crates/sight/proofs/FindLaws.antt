@@ -12,7 +12,7 @@ use Rattle.verdict.proofs.Lowest.{lowest-hit, lowest-all, lowest-done}
 use Rattle.names.specs.Name.{isName, sameName}
 use Rattle.text.specs.Reading.{Word}
 use Rattle.names.proofs.NameLaws.{same-name-name, name-long}
-use Rattle.layout.specs.Starts.{Named, keptName, held}
+use Rattle.layout.specs.Starts.{KeptEntries, keptName, held}
 use Rattle.layout.proofs.ApartLaws.{length-names}
 use Rattle.layout.proofs.HeldLaws.{held-long, room-name}
 use Rattle.sight.specs.Grammar.{roomOf}
@@ -22,31 +22,30 @@ use Rattle.sight.specs.Code.{keptNames}
 abbrev pub hasName : List Word → Word → ℕ → Bool
 hasName names w m = sameName w (getD names m [])
 
-module _ (s starts : List ℕ) (n : ℕ) (room : n ≤ length starts) where
+module _ (s starts : List ℕ) (n : ℕ) (kept : KeptEntries s starts n) where
   pub names-long : length (keptNames s starts n) ≡ n
-  names-long = length-names (held s starts 0 n) ∙ held-long s starts 0 n (omega arith)
+  names-long = length-names (held s starts n) ∙ held-long s starts n (kept .inside)
 
   -- the name at a kept start is the room's
   pub kept-is : (j : ℕ) → j < n → keptName s starts j ≡ getD (keptNames s starts n) j []
   unfolding keptName
-  kept-is j l = rw (lt-ltb j (length starts) (omega arith)) (sym (room-name s starts n j room l))
+  kept-is j l = rw (lt-ltb j (length starts) (omega (arith, kept .inside))) (sym (room-name s starts n j (kept .inside) l))
 
-  module _ (named : Named s starts n) where
-    -- it is a name, of at most 16 bytes
-    pub kept-good : (j : ℕ) → j < n → isName (keptName s starts j) ≡ true
-    unfolding keptName
-    kept-good j l = rw (lt-ltb j (length starts) (omega arith)) (named .name j l)
+  -- it is a name, of at most 16 bytes
+  pub kept-good : (j : ℕ) → j < n → isName (keptName s starts j) ≡ true
+  unfolding keptName
+  kept-good j l = rw (lt-ltb j (length starts) (omega (arith, kept .inside))) (kept .name j l)
 
-    pub kept-short : (j : ℕ) → j < n → length (keptName s starts j) ≤ 16
-    kept-short j l = name-long _ (kept-good j l) .1
+  pub kept-short : (j : ℕ) → j < n → length (keptName s starts j) ≤ 16
+  kept-short j l = name-long _ (kept-good j l) .1
 
-    -- a word that is no name names no room
-    pub no-name-no-room : (w : Word) → isName w ≡ false → n ≡ roomOf (keptNames s starts n) w
-    unfolding roomOf
-    no-name-no-room w e =
-        sym (lowest-all (hasName (keptNames s starts n) w) _ (λ k l.
-        let h : k < n = omega (arith, names-long) in
-        test (hasName (keptNames s starts n) w k) (λ (q : hasName (keptNames s starts n) w k ≡ true). clash (same-name-name w _ q (rw (← kept-is k h) (kept-good k h))) e) (λ q. q)) ∙ names-long)
+  -- a word that is no name names no room
+  pub no-name-no-room : (w : Word) → isName w ≡ false → n ≡ roomOf (keptNames s starts n) w
+  unfolding roomOf
+  no-name-no-room w e =
+      sym (lowest-all (hasName (keptNames s starts n) w) _ (λ k l.
+      let h : k < n = omega (arith, names-long) in
+      test (hasName (keptNames s starts n) w k) (λ (q : hasName (keptNames s starts n) w k ≡ true). clash (same-name-name w _ q (rw (← kept-is k h) (kept-good k h))) e) (λ q. q)) ∙ names-long)
 
   -- ---- the search, step by step
 

@@ -13,19 +13,17 @@ use Rattle.number.specs.Count.{isCount}
 use Rattle.text.specs.Scan.{run, apart, words, lineAt}
 use Rattle.text.specs.Reading.{Word, Line, nth, readLines}
 use Rattle.text.specs.Written.{wordLines}
+use Rattle.text.proofs.SplitLaws.{piece-within}
 use Rattle.text.proofs.ReadingLaws.{rest, scan-next, scan-stop, scan-end}
 use Rattle.sight.specs.declared.Looking.{Looking}
+use Rattle.sight.specs.declared.Turn.{Turn}
 use Rattle.sight.specs.declared.Sight.{Sight}
-use Rattle.sight.specs.Rows.{sees}
+use Rattle.sight.specs.Rows.{sees, noRows}
 use Rattle.sight.specs.Grammar.{roomOf, roomFault, lineFault, movedTo, rowsBehind, State, start, fault, next, finish, sightGrammar}
 use Rattle.sight.specs.Sight.{grammar}
-use Rattle.sight.specs.Code.{asRead, noSight}
+use Rattle.sight.specs.Code.{asRead, noSight, stateOf, turnOf, rowsAfter}
 use Rattle.sight.proofs.RoomLaws.{room-within}
-use Rattle.sight.proofs.RowsGood.{Good, good-next, room-known, room-new, seen-faults, observer-faults}
-
--- the state that the code stands for
-abbrev pub stateOf : Looking → List ℕ → State
-stateOf c rows = record { at = c; rows = rows }
+use Rattle.sight.proofs.RowsGood.{room-known, room-new, seen-faults, observer-faults}
 
 -- ---- a line without fault
 
@@ -54,37 +52,78 @@ module _ (n : ℕ) (c : Looking) (row room f : ℕ) (within : room ≤ n) (z : f
       test (ltb 0 (c .left)) (λ (q : ltb 0 (c .left) ≡ true). rw q h)
       (λ (q : ltb 0 (c .left) ≡ false). rw q (let y : c .left ≡ 0 = omega (arith, ltb-false 0 (c .left) q) in omega (arith, observer-asks (w ∷ ws) e (omega arith) y .1 .0)))
 
--- ---- the turn
+-- ---- one line
 
-module _ (names : List Word) (s rows : List ℕ) (c : Looking) (n passed at : ℕ) (sized : length names ≡ n) (good : Good (length names) (stateOf c rows)) (inv : grammar names s ≡ readLines (sightGrammar names) passed (stateOf c rows) (rest s at)) (h : at < length s) where
-  module _ (l u : List ℕ) (room row f : ℕ) (el : l ≡ lineAt s at) (eu : u ≡ nth (words l) 0) (er : room ≡ roomOf names u) (ew : row ≡ getD rows (c .observer) 0) (ef : f ≡ lineFault n c row room (words l)) where
-    -- the code's fault is the grammar's
-    fault-is : f ≡ fault names (stateOf c rows) (words (lineAt s at))
-    unfolding fault
-    fault-is = ef ∙ rw (er, eu, el, ew, ← sized)
+module _ (names : List Word) (rows l u : List ℕ) (c : Looking) (n room row f : ℕ) (sized : length names ≡ n) (eu : u ≡ nth (words l) 0) (er : room ≡ roomOf names u) (ew : row ≡ getD rows (c .observer) 0) (ef : f ≡ lineFault n c row room (words l)) where
+  -- the code's fault is the grammar's
+  fault-is : f ≡ fault names (stateOf c rows) (words l)
+  unfolding fault
+  fault-is = ef ∙ rw (er, eu, ew, ← sized)
 
-    pub room-few : room ≤ n
-    room-few = rw (er, ← sized) (room-within names u)
+  pub room-few : room ≤ n
+  room-few = rw (er, ← sized) (room-within names u)
 
-    pub turn-stops : (f ≡ 0 → ⊥) → noSight f (passed + 1) ≡ asRead (grammar names s)
-    unfolding asRead noSight
-    turn-stops z = rw (inv ∙ scan-stop (sightGrammar names) s passed at (stateOf c rows) h (λ y. z (fault-is ∙ y)), ← fault-is)
+  pub turn-faulty : (f ≡ 0 → ⊥) → (_≡_ {A = Turn} (record { fault = f; next = c }) (turnOf names (stateOf c rows) (words l))) × (rows ≡ rowsAfter names (stateOf c rows) (words l))
+  unfolding turnOf rowsAfter
+  turn-faulty z = (rw (← fault-is, ne-eqb f 0 z), rw (← fault-is, ne-eqb f 0 z))
 
-    pub turn-more : (more : List ℕ) (d : Looking) (e : ℕ) → f ≡ 0 → more ≡ rowsBehind rows c room (words l) → d ≡ movedTo c room (words l) → e ≡ at + run (apart isEnd) (drop at s) → Good (length names) (stateOf d more) × (grammar names s ≡ readLines (sightGrammar names) (passed + 1) (stateOf d more) (rest s (e + 1)))
-    turn-more more d e z em ed ee =
-        let y : fault names (stateOf c rows) (words (lineAt s at)) ≡ 0 = sym fault-is ∙ z in
-        let same : next names (stateOf c rows) (words (lineAt s at)) ≡ stateOf d more = unfold next in (rw (em, ed, er, eu, el)) in
-        (rw (← same) (good-next names (stateOf c rows) (words (lineAt s at)) good y), inv ∙ scan-next (sightGrammar names) s passed at e (stateOf c rows) ee h y ∙ rw same)
+  pub turn-right : (more : List ℕ) (d : Looking) → f ≡ 0 → more ≡ rowsBehind rows c room (words l) → d ≡ movedTo c room (words l) → (_≡_ {A = Turn} (record { fault = f; next = d }) (turnOf names (stateOf c rows) (words l))) × (more ≡ rowsAfter names (stateOf c rows) (words l))
+  unfolding turnOf rowsAfter next
+  turn-right more d z em ed = (rw (← fault-is, eq-eqb f 0 z, ed, er, eu), rw (← fault-is, eq-eqb f 0 z, em, er, eu))
+
+-- ---- the lines from a place on
+
+-- the reader stands before the line that starts at a place, behind so many lines: the observer has a row, and the lines from there on say what all do
+pub record Standing (names : List Word) (s rows : List ℕ) (c : Looking) (passed at : ℕ) : Type 0 where
+  pub seer : c .observer < 64
+  pub fewer : passed ≤ at
+  pub within : at ≤ length s + 1
+  pub same : grammar names s ≡ readLines (sightGrammar names) passed (stateOf c rows) (rest s at)
+
+-- before the first line
+pub standing : (names : List Word) (s : List ℕ) → Standing names s noRows (start .at) 0 0
+unfolding grammar wordLines
+standing names s = record { seer = omega arith; fewer = omega arith; within = omega arith; same = refl }
+
+module _ (names : List Word) (s rows l : List ℕ) (c : Looking) (passed at : ℕ) (inv : Standing names s rows c passed at) (h : at < length s) (el : l ≡ lineAt s at) (t : Turn) (et : t ≡ turnOf names (stateOf c rows) (words l)) where
+  told : t .fault ≡ fault names (stateOf c rows) (words (lineAt s at))
+  unfolding turnOf
+  told = rw (et, el)
+
+  pub turn-stops : (t .fault ≡ 0 → ⊥) → noSight (t .fault) (passed + 1) ≡ asRead (grammar names s)
+  unfolding asRead noSight
+  turn-stops z = rw (inv .same ∙ scan-stop (sightGrammar names) s passed at (stateOf c rows) h (λ y. z (told ∙ y)), ← told)
+
+  module _ (z : t .fault ≡ 0) where
+    none : fault names (stateOf c rows) (words (lineAt s at)) ≡ 0
+    none = sym told ∙ z
+
+    moved-on : t .next ≡ next names (stateOf c rows) (words (lineAt s at)) .at
+    unfolding turnOf
+    moved-on = rw (et, el, eq-eqb _ 0 none)
+
+    still-within : length names ≤ 64 → t .next .observer < 64
+    unfolding next fault
+    still-within few =
+        rw moved-on (observer-within (length names) c _ (roomOf names (nth (words (lineAt s at)) 0)) _ (room-within names _) none (words (lineAt s at)) refl few (inv .seer))
+
+    pub turn-more : (more : List ℕ) (e : ℕ) → length names ≤ 64 → more ≡ rowsAfter names (stateOf c rows) (words l) → e ≡ at + run (apart isEnd) (drop at s) → Standing names s more (t .next) (passed + 1) (e + 1)
+    unfolding rowsAfter
+    turn-more more e few em ee =
+        let marked : more ≡ next names (stateOf c rows) (words (lineAt s at)) .rows = em ∙ rw (el, eq-eqb _ 0 none) in
+        let ends = piece-within isEnd s at e ee (omega arith) in
+        record {
+          seer = still-within few;
+          fewer = omega (arith, inv .fewer, ends);
+          within = omega (arith, ends);
+          same = inv .same ∙ scan-next (sightGrammar names) s passed at e (stateOf c rows) ee h none ∙ rw (moved-on, marked);
+        }
 
 -- ---- the ends
 
-pub started : (names : List Word) (s : List ℕ) → grammar names s ≡ readLines (sightGrammar names) 0 start (rest s 0)
-unfolding grammar wordLines
-started names s = refl
-
-module _ (names : List Word) (s rows : List ℕ) (c : Looking) (passed at : ℕ) (inv : grammar names s ≡ readLines (sightGrammar names) passed (stateOf c rows) (rest s at)) (h : length s ≤ at) where
+module _ (names : List Word) (s rows : List ℕ) (c : Looking) (passed at : ℕ) (inv : Standing names s rows c passed at) (h : length s ≤ at) where
   ends : grammar names s ≡ finish (stateOf c rows) passed
-  ends = inv ∙ scan-end (sightGrammar names) s passed at (stateOf c rows) h
+  ends = inv .same ∙ scan-end (sightGrammar names) s passed at (stateOf c rows) h
 
   pub ends-early : (c .left ≡ 0 → ⊥) → noSight 38 passed ≡ asRead (grammar names s)
   unfolding asRead noSight finish

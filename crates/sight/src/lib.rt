@@ -2,11 +2,10 @@
 use layout::Layout;
 use text::line_at;
 use text::line_end;
-use text::word;
 ghost use mathlib.Core.Path.{_≡_};
 ghost use Prim.Native.Nat.{_+_, _<_, _≤_};
 ghost use lib.ListN.{length};
-ghost use Rattle.layout.specs.Starts.{Named, layoutRead};
+ghost use Rattle.layout.specs.Starts.{KeptEntries, layoutRead};
 ghost use Rattle.sight.specs.Rows.{sees};
 ghost use Rattle.sight.specs.Sight.{grammar, sightOf, rowAnswer};
 ghost use Rattle.sight.specs.Code.{asRead, noSight, keptNames};
@@ -18,6 +17,12 @@ struct Looking {
     observer: usize,
     left: usize,
     told: u64,
+}
+
+// One line as it was read: what is wrong with it, 0 for nothing, and where the reader is behind it.
+struct Turn {
+    fault: u32,
+    next: Looking,
 }
 
 // Visibility that was read: the verdict, and the row of each room, all 0 on refusal.
@@ -51,7 +56,7 @@ fn refused_sight(number: u32, place: u32) -> Sight
 
 // The lines one after the other, of a text that rules 31 and 32 accept, against the first n rooms whose starts are kept.
 fn read_lines(layout: &[u8], starts: &[usize], n: usize, s: &[u8]) -> Sight
-    requires { ⌜ (length (now s) ≤ 65536) × ((n ≤ 64) × ((n ≤ length (now starts)) × Named (now layout) (now starts) n)) ⌝ }
+    requires { ⌜ (length (now s) ≤ 65536) × KeptEntries (now layout) (now starts) n ⌝ }
     ensures { λ r. ⌜ r ≡ asRead (grammar (keptNames (now (layout .entry)) (now (starts .entry)) n) (now (s .entry))) ⌝ }
 {
     let mut rows = [0u64; 64];
@@ -63,16 +68,12 @@ fn read_lines(layout: &[u8], starts: &[usize], n: usize, s: &[u8]) -> Sight
     let mut at = 0;
     let mut passed: usize = 0;
     while at < s.len() {
-        let l = line_at(s, at);
-        let room = lines::room_of(layout, starts, n, word(l, 0));
-        let i = st.observer;
-        let f = lines::line_fault(n, st, rows[i], room, l);
+        let t = lines::turn(layout, starts, n, &mut rows, st, line_at(s, at));
         passed += 1;
-        if f != 0 {
-            return refused_sight(f, passed as u32);
+        if t.fault != 0 {
+            return refused_sight(t.fault, passed as u32);
         }
-        lines::mark(&mut rows, st, room, l);
-        st = lines::moved(st, room, l);
+        st = t.next;
         at = line_end(s, at) + 1;
     }
     if st.left != 0 {

@@ -1,5 +1,6 @@
 // A line of visibility: the room that it names, what is wrong with it, and what it adds.
 use super::Looking;
+use super::Turn;
 use super::is_seen;
 use names::is_name;
 use number::is_count;
@@ -14,10 +15,10 @@ ghost use Rattle.text.specs.Scan.{words};
 ghost use Rattle.names.specs.Name.{isName};
 ghost use Rattle.number.specs.Count.{isCount};
 ghost use Rattle.text.specs.Reading.{nth};
-ghost use Rattle.layout.specs.Starts.{Named};
+ghost use Rattle.layout.specs.Starts.{KeptEntries};
 ghost use Rattle.sight.specs.Rows.{sees, withMark};
 ghost use Rattle.sight.specs.Grammar.{roomOf, roomFault, seenFault, observerFault, lineFault, movedTo, rowsBehind};
-ghost use Rattle.sight.specs.Code.{keptNames};
+ghost use Rattle.sight.specs.Code.{keptNames, stateOf, turnOf, rowsAfter};
 
 // The row with mark j, which is not set yet.
 pub(crate) fn with_mark(row: u64, j: usize) -> u64
@@ -29,7 +30,7 @@ pub(crate) fn with_mark(row: u64, j: usize) -> u64
 
 // The first of n rooms that has a name, or n.
 pub(crate) fn find_room(layout: &[u8], starts: &[usize], n: usize, w: &[u8]) -> usize
-    requires { ⌜ (n ≤ length (now starts)) × ((isName (now w) ≡ true) × Named (now layout) (now starts) n) ⌝ }
+    requires { ⌜ KeptEntries (now layout) (now starts) n × (isName (now w) ≡ true) ⌝ }
     ensures { λ r. ⌜ r ≡ roomOf (keptNames (now (layout .entry)) (now (starts .entry)) n) (now (w .entry)) ⌝ }
 {
     let mut j = 0;
@@ -44,7 +45,7 @@ pub(crate) fn find_room(layout: &[u8], starts: &[usize], n: usize, w: &[u8]) -> 
 
 // The room that a word names, or n: a word that is no name names none.
 pub(crate) fn room_of(layout: &[u8], starts: &[usize], n: usize, w: &[u8]) -> usize
-    requires { ⌜ (n ≤ length (now starts)) × Named (now layout) (now starts) n ⌝ }
+    requires { ⌜ KeptEntries (now layout) (now starts) n ⌝ }
     ensures { λ r. ⌜ r ≡ roomOf (keptNames (now (layout .entry)) (now (starts .entry)) n) (now (w .entry)) ⌝ }
 {
     if is_name(w) {
@@ -145,4 +146,28 @@ pub(crate) fn mark(rows: &mut [u64; 64], st: Looking, room: usize, l: &[u8])
     }
     let i = st.observer;
     rows[i] = with_mark(rows[i], room);
+}
+
+// One line: its fault, or its mark set and where the reader is behind it.
+pub(crate) fn turn(
+    layout: &[u8],
+    starts: &[usize],
+    n: usize,
+    rows: &mut [u64; 64],
+    st: Looking,
+    l: &[u8],
+) -> Turn
+    requires { ⌜ KeptEntries (now layout) (now starts) n × (st .observer < 64) ⌝ }
+    ensures answer { λ r. ⌜ r ≡ turnOf (keptNames (now (layout .entry)) (now (starts .entry)) n) (stateOf st (now (rows .entry))) (words (now (l .entry))) ⌝ }
+    ensures marks { λ _. ⌜ now (rows .exit) ≡ rowsAfter (keptNames (now (layout .entry)) (now (starts .entry)) n) (stateOf st (now (rows .entry))) (words (now (l .entry))) ⌝ }
+{
+    let room = room_of(layout, starts, n, word(l, 0));
+    let i = st.observer;
+    let fault = line_fault(n, st, rows[i], room, l);
+    if fault != 0 {
+        return Turn { fault, next: st };
+    }
+    mark(rows, st, room, l);
+    let next = moved(st, room, l);
+    Turn { fault, next }
 }

@@ -21,7 +21,7 @@ use Rattle.text.proofs.WrittenLaws.{ended-append}
 use Rattle.text.specs.Reading.{Word}
 use Rattle.letters.proofs.CaseLaws.{length-lowered}
 use Rattle.printer.proofs.WriteLaws.{wrote-none, wrote-then, wrote-is}
-use Rattle.layout.specs.Starts.{keptName}
+use Rattle.layout.specs.Starts.{KeptEntries, keptName}
 use Rattle.sight.specs.Rows.{sees}
 use Rattle.sightform.specs.Form.{seenTo, seenLine, roomLines, linesTo, sightText}
 use Rattle.sightform.specs.Code.{printedNames}
@@ -60,12 +60,12 @@ shown-short s starts i name j h k = omega (arith, length-lowered (cond (eqb j i)
 
 -- ---- the names that are printed
 
-module _ (s starts : List ℕ) (n i : ℕ) (name : Word) (room : n ≤ length starts) where
+module _ (s starts : List ℕ) (n i : ℕ) (name : Word) (kept : KeptEntries s starts n) where
   abbrev names : List Word
   names = printedNames s starts n i name
 
   lowered-long : length (map lowered (keptNames s starts n)) ≡ n
-  lowered-long = length-map (keptNames s starts n) lowered ∙ names-long s starts n room
+  lowered-long = length-map (keptNames s starts n) lowered ∙ names-long s starts n kept
 
   pub printed-long : length names ≡ n
   unfolding printedNames
@@ -77,7 +77,7 @@ module _ (s starts : List ℕ) (n i : ℕ) (name : Word) (room : n ≤ length st
       decided (ℕ-discrete j i)
       (λ (e : j ≡ i). rw (eq-eqb j i e, e) (sym (getD-set-same (map lowered (keptNames s starts n)) i (lowered name) [] (omega (arith, lowered-long)))))
       (λ (e : j ≡ i → ⊥).
-      rw (ne-eqb j i e, getD-set-other (map lowered (keptNames s starts n)) i j (lowered name) [] e, map-at lowered [] [] (keptNames s starts n) j (omega (arith, names-long s starts n room)), kept-is s starts n room j l))
+      rw (ne-eqb j i e, getD-set-other (map lowered (keptNames s starts n)) i j (lowered name) [] e, map-at lowered [] [] (keptNames s starts n) j (omega (arith, names-long s starts n kept)), kept-is s starts n kept j l))
 
   -- ---- the seen rooms, one after the other
 
@@ -111,13 +111,13 @@ pub room-bytes : (w p : Word) (rest : List (List ℕ)) → w ++ ((32 ∷ []) ++ 
 unfolding ended spaced after
 room-bytes w p rest = simp (append-nil, append-assoc)
 
-module _ (s starts : List ℕ) (n i : ℕ) (name : Word) (room : n ≤ length starts) where
+module _ (s starts : List ℕ) (n i : ℕ) (name : Word) (kept : KeptEntries s starts n) where
   -- a room with its count, and the rooms that it sees
   pub room-wrote : {a b c d e f : List ℕ} {at k1 k2 k3 k4 k5 : ℕ} (row k seen : ℕ) → k < n → seen ≡ ones row → Wrote a b at k1 (shownAs s starts i name k) → Wrote b c k1 k2 (32 ∷ []) → Wrote c d k2 k3 (plain seen) → Wrote d e k3 k4 (10 ∷ []) → Wrote e f k4 k5 (ended (map seenLine (seenTo (printedNames s starts n i name) row n))) → Wrote a f at k5 (ended (roomLines (printedNames s starts n i name) k row))
   unfolding roomLines
   room-wrote row k seen l es p q x y z =
       wrote-is _ (wrote-then p (wrote-then q (wrote-then x (wrote-then y z))))
-      (room-bytes (shownAs s starts i name k) (plain seen) _ ∙ rw (shown s starts n i name room k l, es, printed-long s starts n i name room))
+      (room-bytes (shownAs s starts i name k) (plain seen) _ ∙ rw (shown s starts n i name kept k l, es, printed-long s starts n i name kept))
 
   -- the rooms, one after the other
   pub rooms-start : (l rows : List ℕ) → Wrote l l 0 0 (ended (linesTo (printedNames s starts n i name) rows 0))
@@ -131,4 +131,4 @@ module _ (s starts : List ℕ) (n i : ℕ) (name : Word) (room : n ≤ length st
 
   pub rooms-done : {a b : List ℕ} {e : ℕ} (rows : List ℕ) (k : ℕ) → k ≡ n → Wrote a b 0 e (ended (linesTo (printedNames s starts n i name) rows k)) → Wrote a b 0 e (sightText (printedNames s starts n i name) rows)
   unfolding sightText
-  rooms-done rows k h p = wrote-is _ p (rw (h, printed-long s starts n i name room))
+  rooms-done rows k h p = wrote-is _ p (rw (h, printed-long s starts n i name kept))

@@ -14,7 +14,7 @@ ghost use Rattle.verdict.specs.Output.{formAnswer, formMemory};
 ghost use Rattle.letters.specs.Case.{lowered};
 ghost use Rattle.printer.specs.Write.{Wrote};
 ghost use Rattle.text.specs.Written.{ended, rule40};
-ghost use Rattle.layout.specs.Starts.{Named, keptName};
+ghost use Rattle.layout.specs.Starts.{KeptEntries, keptName};
 ghost use Rattle.sight.specs.Rows.{sees};
 ghost use Rattle.sightform.specs.Form.{seenTo, seenLine, roomLines, sightText};
 ghost use Rattle.sightform.specs.Code.{printedNames};
@@ -88,7 +88,7 @@ pub(crate) fn put_seen(
     i: usize,
     name: &[u8],
 ) -> usize
-    requires { ⌜ (at < 2 ^ 20) × ((length (now name) ≤ 16) × ((n ≤ 64) × ((n ≤ length (now starts)) × Named (now layout) (now starts) n))) ⌝ }
+    requires { ⌜ (at < 2 ^ 20) × ((length (now name) ≤ 16) × KeptEntries (now layout) (now starts) n) ⌝ }
     ensures wrote { λ r. ⌜ Wrote (now (out .entry)) (now (out .exit)) at r (ended (map seenLine (seenTo (printedNames (now (layout .entry)) (now (starts .entry)) n i (now (name .entry))) row n))) ⌝ }
     ensures end { λ r. ⌜ r ≤ at + 19 * n ⌝ }
 {
@@ -114,7 +114,7 @@ pub(crate) fn put_room(
     name: &[u8],
 ) -> usize
     requires small { ⌜ (at < 2 ^ 19) × ((length (now name) ≤ 16) × (k < n)) ⌝ }
-    requires kept { ⌜ (n ≤ 64) × ((n ≤ length (now starts)) × Named (now layout) (now starts) n) ⌝ }
+    requires kept { ⌜ KeptEntries (now layout) (now starts) n ⌝ }
     ensures wrote { λ r. ⌜ Wrote (now (out .entry)) (now (out .exit)) at r (ended (roomLines (printedNames (now (layout .entry)) (now (starts .entry)) n i (now (name .entry))) k row)) ⌝ }
     ensures end { λ r. ⌜ r ≤ at + 1239 ⌝ }
 {
@@ -137,7 +137,7 @@ pub(crate) fn put_form(
     name: &[u8],
 ) -> usize
     requires small { ⌜ (length (now rows) ≡ 64) × (length (now name) ≤ 16) ⌝ }
-    requires kept { ⌜ (n ≤ 64) × ((n ≤ length (now starts)) × Named (now layout) (now starts) n) ⌝ }
+    requires kept { ⌜ KeptEntries (now layout) (now starts) n ⌝ }
     ensures { λ r. ⌜ Wrote (now (out .entry)) (now (out .exit)) 0 r (sightText (printedNames (now (layout .entry)) (now (starts .entry)) n i (now (name .entry))) (now (rows .entry))) ⌝ }
 {
     let mut e = 0;
@@ -160,7 +160,7 @@ pub(crate) fn write_form(
     name: &[u8],
 ) -> Form
     requires small { ⌜ (length (now rows) ≡ 64) × (length (now name) ≤ 16) ⌝ }
-    requires kept { ⌜ (n ≤ 64) × ((n ≤ length (now starts)) × Named (now layout) (now starts) n) ⌝ }
+    requires kept { ⌜ KeptEntries (now layout) (now starts) n ⌝ }
     ensures answer { λ f. ⌜ f ≡ formAnswer (rule40 (sightText (printedNames (now (layout .entry)) (now (starts .entry)) n i (now (name .entry))) (now (rows .entry))) (length (now (out .entry)))) (sightText (printedNames (now (layout .entry)) (now (starts .entry)) n i (now (name .entry))) (now (rows .entry))) ⌝ }
     ensures memory { λ _. ⌜ now (out .exit) ≡ formMemory (rule40 (sightText (printedNames (now (layout .entry)) (now (starts .entry)) n i (now (name .entry))) (now (rows .entry))) (length (now (out .entry)))) (sightText (printedNames (now (layout .entry)) (now (starts .entry)) n i (now (name .entry))) (now (rows .entry))) (now (out .entry)) ⌝ }
 {

@@ -1,16 +1,16 @@
 -- `caption::caption` meets its contract. Assumes nothing.
 use native.Mathlib.Omega.{arith}
-use Rattle.layout.proofs.AnsweredLaws.{answered}
+use Rattle.rooms.proofs.RoomLaws.{rooms-kept}
 use Rattle.caption.proofs.CaptionLaws.{has-it, has-none, its-name, caption-first, caption-second, caption-none}
 use borrow.Author.Needs.{needs}
 use Rattle.caption.proofs.caption.Statement.{statement}
 use Rattle.caption.proofs.caption.Tie as tie
 
 element-copy-out-at : tie.Need-element-copy-out-at
-element-copy-out-at c = omega (arith, answered _ _ (c .before .read .ensures) .held .few-rooms, c .if1 .taken)
+element-copy-out-at c = omega (arith, rooms-kept _ _ (c .before .read .ensures) .few, c .if1 .taken)
 
 element-copy-out-at-2 : tie.Need-element-copy-out-at-2
-element-copy-out-at-2 c = omega (arith, answered _ _ (c .before .read2 .ensures) .held .few-rooms, c .if2 .taken)
+element-copy-out-at-2 c = omega (arith, rooms-kept _ _ (c .before .read2 .ensures) .few, c .if2 .taken)
 
 returns : tie.Need-returns
 returns c =

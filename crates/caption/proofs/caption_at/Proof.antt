@@ -1,11 +1,10 @@
 -- `caption::caption_at` meets its contract. Assumes nothing.
 use Rattle.names.proofs.NameLaws.{name-long}
-use Rattle.rooms.proofs.RoomLaws.{rooms-have-names}
+use Rattle.rooms.proofs.RoomLaws.{rooms-kept}
 use Rattle.caption.proofs.CaptionLaws.{has-it, has-none, its-name}
 use Rattle.layout.proofs.HeldLaws.{named-asked}
 use Rattle.caption.proofs.PlaceLaws.{room-read, place-first, place-second, place-41}
 use native.Mathlib.Omega.{arith}
-use Rattle.layout.proofs.AnsweredLaws.{answered}
 use borrow.Author.Needs.{needs}
 use Rattle.caption.proofs.caption_at.Statement.{statement}
 use Rattle.caption.proofs.caption_at.Tie as tie
@@ -17,7 +16,7 @@ mul-at : tie.Need-mul-at
 mul-at c = search needs
 
 element-copy-out-at : tie.Need-element-copy-out-at
-element-copy-out-at c = omega (arith, answered _ _ (c .before .read .ensures) .held .few-rooms, c .if1 .taken)
+element-copy-out-at c = omega (arith, rooms-kept _ _ (c .before .read .ensures) .few, c .if1 .taken)
 
 line-at-requires : tie.Need-line-at-requires
 line-at-requires c κs = search needs
@@ -29,7 +28,7 @@ found-in-requires : tie.Need-found-in-requires
 found-in-requires c κs =
     let r = c .before .before .before .before in
     let h = c .before .before .before .if1 .taken in
-    (room-read _ _ (has-it _ _ (r .read .ensures) _ h), name-long _ (named-asked _ (r .read .result .starts) _ _ _ (c .before .line-at .ensures) (c .word .ensures) (rooms-have-names _ _ (r .read .ensures) .name _ h)) .1)
+    (room-read _ _ (has-it _ _ (r .read .ensures) _ h), name-long _ (named-asked _ (r .read .result .starts) _ _ _ (c .before .line-at .ensures) (c .word .ensures) (rooms-kept _ _ (r .read .ensures) .name _ h)) .1)
 
 returns : tie.Need-returns
 returns c =
@@ -44,7 +43,7 @@ mul-at-2 : tie.Need-mul-at-2
 mul-at-2 c = search needs
 
 element-copy-out-at-2 : tie.Need-element-copy-out-at-2
-element-copy-out-at-2 c = omega (arith, answered _ _ (c .before .read2 .ensures) .held .few-rooms, c .if2 .taken)
+element-copy-out-at-2 c = omega (arith, rooms-kept _ _ (c .before .read2 .ensures) .few, c .if2 .taken)
 
 line-at-requires-2 : tie.Need-line-at-requires-2
 line-at-requires-2 c κs = search needs
@@ -56,7 +55,7 @@ found-in-requires-2 : tie.Need-found-in-requires-2
 found-in-requires-2 c κs =
     let r = c .before .before .before .before in
     let h = c .before .before .before .if2 .taken in
-    (room-read _ _ (has-it _ _ (r .read2 .ensures) _ h), name-long _ (named-asked _ (r .read2 .result .starts) _ _ _ (c .before .line-at2 .ensures) (c .word2 .ensures) (rooms-have-names _ _ (r .read2 .ensures) .name _ h)) .1)
+    (room-read _ _ (has-it _ _ (r .read2 .ensures) _ h), name-long _ (named-asked _ (r .read2 .result .starts) _ _ _ (c .before .line-at2 .ensures) (c .word2 .ensures) (rooms-kept _ _ (r .read2 .ensures) .name _ h)) .1)
 
 returns-2 : tie.Need-returns-2
 returns-2 c =

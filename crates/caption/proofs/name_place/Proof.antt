@@ -20,13 +20,17 @@ abbrev μ-loop : tie.MeasureT-loop
 μ-loop s w at₀ at = length s - at
 
 -- the name of the line that was found
-found : (c : tie.After-skip-gap Inv-loop μ-loop) → (c .before .before .before .before .before .loop .at + c .skip-gap .result ≡ namePlace (c .before .before .before .before .before .before .before .before .args .w .now) 0 (lines (c .before .before .before .before .before .before .before .before .args .s .now))) × (c .before .before .before .before .before .loop .at + c .skip-gap .result ≤ length (c .before .before .before .before .before .before .before .before .args .s .now))
+found : (c : tie.After-skip-gap Inv-loop μ-loop) → let at-loop = c .before .before .before .before .before in let start = at-loop .before .before .before in (at-loop .loop .at + c .skip-gap .result ≡ namePlace (start .args .w .now) 0 (lines (start .args .s .now))) × (at-loop .loop .at + c .skip-gap .result ≤ length (start .args .s .now))
 found c =
-    let l : c .skip-gap .result ≡ run isGap (lineAt (c .before .before .before .before .before .before .before .before .args .s .now) (c .before .before .before .before .before .loop .at)) = c .skip-gap .ensures ∙ zero-add _ ∙ ap (run isGap) (c .before .before .before .line-at .ensures) in
-    (place-hit _ _ _ _ (c .before .before .before .before .loop-test .taken) (ap (entersAs _) (sym (c .before .before .before .line-at .ensures)) ∙ sym (c .before .before .enters-as .ensures) ∙ c .before .if1 .taken) l ∙ sym (c .before .before .before .before .before .loop .inv .1), omega (arith, gap-within (c .before .before .before .before .before .before .before .before .args .s .now) (c .before .before .before .before .before .loop .at) (omega (arith, c .before .before .before .before .loop-test .taken))))
+    let at-line-at = c .before .before .before in
+    let in-loop = at-line-at .before in
+    let at-loop = in-loop .before in
+    let start = at-loop .before .before .before in
+    let l : c .skip-gap .result ≡ run isGap (lineAt (start .args .s .now) (at-loop .loop .at)) = c .skip-gap .ensures ∙ zero-add _ ∙ ap (run isGap) (at-line-at .line-at .ensures) in
+    (place-hit _ _ _ _ (in-loop .loop-test .taken) (ap (entersAs _) (sym (at-line-at .line-at .ensures)) ∙ sym (c .before .before .enters-as .ensures) ∙ c .before .if1 .taken) l ∙ sym (at-loop .loop .inv .1), omega (arith, gap-within (start .args .s .now) (at-loop .loop .at) (omega (arith, in-loop .loop-test .taken))))
 
 -- a line ends within the text
-ends : (c : tie.After-line-end Inv-loop μ-loop) → (c .before .before .before .before .before .loop .at ≤ c .line-end .result) × (c .line-end .result ≤ length (c .before .before .before .before .before .before .before .before .args .s .now))
+ends : (c : tie.After-line-end Inv-loop μ-loop) → let at-loop = c .before .before .before .before .before in let start = at-loop .before .before .before in (at-loop .loop .at ≤ c .line-end .result) × (c .line-end .result ≤ length (start .args .s .now))
 ends c = piece-within isEnd _ _ _ (c .line-end .ensures) (omega (arith, c .before .before .before .before .loop-test .taken))
 
 loop-holds : tie.Need-loop-holds Inv-loop μ-loop

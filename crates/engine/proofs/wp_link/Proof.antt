@@ -18,8 +18,9 @@ same-length-2 c = search needs
 
 returns : tie.Need-returns
 returns c =
-    let a = c .before .before .before .before .before .before .before .before .before in
-    handed (λ z. editStep areaFloor (linkWish (a .args .entry) z) (lent (a .args .floor .now) (a .args .journal .now) (a .args .f) (a .args .k))) (a .args .transition) (a .fits .transition) (c .before .before .before .before .link .ensures)
+    let at-link = c .before .before .before .before in
+    let a = at-link .before .before .before .before .before in
+    handed (λ z. editStep areaFloor (linkWish (a .args .entry) z) (lent (a .args .floor .now) (a .args .journal .now) (a .args .f) (a .args .k))) (a .args .transition) (a .fits .transition) (at-link .link .ensures)
 
 pub wp-link-spec : {M : Type 1} → statement M
 wp-link-spec = tie.close (tie.spec link-requires same-length same-length-2 returns)

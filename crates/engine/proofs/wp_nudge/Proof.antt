@@ -18,8 +18,9 @@ same-length-2 c = search needs
 
 returns : tie.Need-returns
 returns c =
-    let a = c .before .before .before .before .before .before .before .before .before in
-    handed (λ z. editStep areaFloor (nudgeWish (a .args .place) z) (lent (a .args .floor .now) (a .args .journal .now) (a .args .f) (a .args .k))) (a .args .step) (a .fits .step) (c .before .before .before .before .nudge .ensures)
+    let at-nudge = c .before .before .before .before in
+    let a = at-nudge .before .before .before .before .before in
+    handed (λ z. editStep areaFloor (nudgeWish (a .args .place) z) (lent (a .args .floor .now) (a .args .journal .now) (a .args .f) (a .args .k))) (a .args .step) (a .fits .step) (at-nudge .nudge .ensures)
 
 pub wp-nudge-spec : {M : Type 1} → statement M
 wp-nudge-spec = tie.close (tie.spec nudge-requires same-length same-length-2 returns)

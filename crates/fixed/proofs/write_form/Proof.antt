@@ -52,10 +52,11 @@ copy-table-requires c κs =
 
 loop-again : tie.Need-loop-again Inv-loop μ-loop
 loop-again c =
-    let known = c .before .before .before .before .before .before .before .before .before .before .before in
+    let at-loop = c .before .before .before .before .before in
+    let known = at-loop .before .before .before .before .before .before in
     let s = known .before in
     let b = now (s .args .bytes) in
-    let l = c .before .before .before .before .before .loop in
+    let l = at-loop .loop in
     let t = c .before .before .copy-table in
     let y : Bytes b = record { byte = λ i. omega (arith, known .shared-slice-known .given i) } in (
       table-written b (s .pre .0) y _ _ (l .k) (omega arith) (omega (arith, l .inv .3, l .inv .4, start-mono (partsOf b) (sized-of b (s .pre .0)) (l .k + 1) 9 (omega arith))) (l .inv .0) (l .inv .1) (t .ensures .1),
@@ -70,10 +71,11 @@ same-length c = omega (arith, c .before .before .before .before .write-head .kep
 
 returns : tie.Need-returns Inv-loop μ-loop
 returns c =
-    let s = c .before .before .before .before .before .before .before .before in
+    let at-write-head = c .before .before .before .before in
+    let s = at-write-head .before .before .before .before in
     let p = partsOf (now (s .args .bytes)) in
     let h = sized-of _ (s .pre .0) in
-    let w = c .before .before .before .before .write-head in
+    let w = at-write-head .write-head in
     let l = c .before .loop in
     let e : l .k ≡ 9 = omega arith in
     l .inv .0 ∙ rw (e, up-all p h, w .ensures)

@@ -34,8 +34,9 @@ returns-2 c =
 
 tree-and-borders-requires : tie.Need-tree-and-borders-requires
 tree-and-borders-requires c κs =
-    let s = c .before .before .before .before .before .before .before .before .before in
-    let h = right (c .before .before .before .before) in
+    let there = c .before .before .before .before in
+    let s = there .before .before .before .before .before in
+    let h = right there in
     let q = shaped (c .before) in
     ((q .mesh .finite, q .mesh .cornered, q .closed), (h, header-met _ h .long, s .pre))
 

@@ -15,8 +15,10 @@ use Rattle.floor.proofs.read.Tie as tie
 returns : tie.Need-returns
 unfolding readerAnswer
 returns c =
-    let so = c .before .before .before .before .read-verdict in
-    let p = partsOf (now (c .before .before .before .before .before .before .before .before .args .bytes)) in
+    let at-read-verdict = c .before .before .before .before in
+    let start = at-read-verdict .before .before .before .before in
+    let so = at-read-verdict .read-verdict in
+    let p = partsOf (now (start .args .bytes)) in
     (on-refusal (so .result) p (c .if1 .taken) ∙ ap (λ (a : Answer). answerOf a p) (so .ensures .0), so .ensures .1)
 
 -- the floor is accepted
@@ -29,8 +31,10 @@ counted-requires c κs = let a = right c in (a .header, a .long, walkable-is _ a
 returns-2 : tie.Need-returns-2
 unfolding readerAnswer
 returns-2 c =
-    let so = c .before .before .before .before .before .read-verdict in
-    let p = partsOf (now (c .before .before .before .before .before .before .before .before .before .args .bytes)) in
+    let at-read-verdict = c .before .before .before .before .before in
+    let start = at-read-verdict .before .before .before .before in
+    let so = at-read-verdict .read-verdict in
+    let p = partsOf (now (start .args .bytes)) in
     (c .counted .ensures ∙ ap (λ (a : Answer). answerOf a p) (nothing-broken _ _ _ (so .ensures .0) (c .before .if1 .left)), so .ensures .1)
 
 pub read-spec : {M : Type 1} → statement M

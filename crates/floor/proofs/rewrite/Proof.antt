@@ -18,8 +18,10 @@ use Rattle.floor.proofs.rewrite.Tie as tie
 returns : tie.Need-returns
 unfolding rewriteAnswer rewriteMemory
 returns c =
-    let so = c .before .before .before .before .before .rewrite-verdict in
-    let a = c .before .before .before .before .before .before .before .before .before .before .before .args in
+    let at-rewrite-verdict = c .before .before .before .before .before in
+    let start = at-rewrite-verdict .before .before .before .before .before .before in
+    let so = at-rewrite-verdict .rewrite-verdict in
+    let a = start .args in
     let form = fixedForm (now (a .bytes)) in
     let h = form-refused (so .result) form (now (a .out)) (c .before .if1 .taken) in
     (c .refused-form .ensures ∙ h .0 ∙ ap (λ (v : Answer). formAnswer v form) (so .ensures .0), (so .ensures .1, h .1 ∙ ap (λ (v : Answer). formMemory v form (now (a .out))) (so .ensures .0)))

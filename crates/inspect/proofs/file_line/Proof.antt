@@ -11,8 +11,10 @@ use Rattle.inspect.proofs.file_line.Tie as tie
 returns : tie.Need-returns
 unfolding fileLine fileMemory
 returns c =
-    let n = length (c .before .before .before .before .before .before .before .before .args .bytes .now) in
-    rw (lt-ltb 65536 n (omega (arith, c .before .before .before .before .if1 .taken))) (c .before .before .put-too-long .ensures, refl)
+    let at-if1 = c .before .before .before .before in
+    let start = at-if1 .before .before .before .before in
+    let n = length (start .args .bytes .now) in
+    rw (lt-ltb 65536 n (omega (arith, at-if1 .if1 .taken))) (c .before .before .put-too-long .ensures, refl)
 
 returns-2 : tie.Need-returns-2
 unfolding fileLine fileMemory

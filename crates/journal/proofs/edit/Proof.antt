@@ -58,10 +58,14 @@ add-k c = omega (arith, opened (c .before .before .before .before .before .befor
 returns-2 : tie.Need-returns-2
 unfolding editStep
 returns-2 c =
-    let a = c .before .before .before .before .before .before .before .before .before .before .before .before .before .before .args in
+    let at-write = c .before .before .before .before in
+    let at-if1 = at-write .before .before .before in
+    let there = at-if1 .before .before in
+    let start = there .before .before .before .before .before in
+    let a = start .args in
     let s = lent (now (a .floor)) (now (a .journal)) (a .f) (a .k) in
-    let w = c .before .before .before .before .write .ensures in
-    rw (w .0, w .1) (does _ _ s (edited areaFloor (recordOf areaFloor (now (a .floor)) (asked (a .tag) (a .place) (a .ok) (a .new))) s) (verdict-is (c .before .before .before .before .before .before .before .before .before)) (c .before .before .before .before .before .before .before .if1 .left))
+    let w = at-write .write .ensures in
+    rw (w .0, w .1) (does _ _ s (edited areaFloor (recordOf areaFloor (now (a .floor)) (asked (a .tag) (a .place) (a .ok) (a .new))) s) (verdict-is there) (at-if1 .if1 .left))
 
 pub edit-spec : {M : Type 1} → statement M
 edit-spec =

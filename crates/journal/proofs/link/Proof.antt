@@ -29,12 +29,15 @@ edit-requires c κs = accepts (c .before .before .before .before)
 
 returns-2 : tie.Need-returns-2
 returns-2 c =
-    let s = c .before .before .before .before .before .before .before .before .before .before .before .before .before .before .before in
+    let at-edit = c .before .before .before .before in
+    let at-transition-word = at-edit .before .before .before in
+    let at-may-link = at-transition-word .before in
+    let s = at-may-link .before .before .before .before .before .before .before in
     let a = s .args in
     let e = toZ-ofZ w32 (a .transition) (s .fits .transition) in
-    c .before .before .before .before .edit .ensures
+    at-edit .edit .ensures
     ∙ edit-as areaFloor (linkWish (a .entry) (a .transition)) _ _ _
-    (c .before .before .before .before .before .before .before .before .may-link .ensures ∙ ap mayLink e) (λ h. c .before .before .before .before .before .before .before .transition-word .ensures ∙ ap transitionWord e)
+    (at-may-link .may-link .ensures ∙ ap mayLink e) (λ h. at-transition-word .transition-word .ensures ∙ ap transitionWord e)
 
 pub link-spec : {M : Type 1} → statement M
 link-spec = tie.close (tie.spec (search needs) (search needs) (search needs) returns (search needs) (search needs) edit-requires (search needs) (search needs) returns-2)

@@ -46,9 +46,12 @@ moved-is c = c .nudge .ensures ∙ ap₂ nudgedAt (c .before .word-at .ensures) 
 
 returns-2 : tie.Need-returns-2
 returns-2 c =
-    let a = c .before .before .before .before .before .before .before .before .before .before .before .before .before .before .before .before .before .args in
-    let m = moved-is (c .before .before .before .before .before .before .before) in
-    c .before .before .before .before .edit .ensures
+    let at-edit = c .before .before .before .before in
+    let there = at-edit .before .before .before in
+    let start = there .before .before .before .before .before .before .before .before .before .before in
+    let a = start .args in
+    let m = moved-is there in
+    at-edit .edit .ensures
     ∙ edit-as areaFloor (nudgeWish (a .place) (a .step)) _ _ _ (ok-is _ (a .step) _ m) (λ h. bits-moved _ (a .step) _ m h)
 
 pub nudge-spec : {M : Type 1} → statement M

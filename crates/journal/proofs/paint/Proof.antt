@@ -31,10 +31,14 @@ edit-requires c κs = accepts (c .before .before .before .before .before)
 
 returns-2 : tie.Need-returns-2
 returns-2 c =
-    let a = c .before .before .before .before .before .before .before .before .before .before .before .before .before .before .before .before .args in
-    c .before .before .before .before .edit .ensures
+    let at-edit = c .before .before .before .before in
+    let at-is-permitted = at-edit .before .before .before in
+    let at-word-at = at-is-permitted .before in
+    let start = at-word-at .before .before .before .before .before .before .before .before in
+    let a = start .args in
+    at-edit .edit .ensures
     ∙ edit-as areaFloor (paintWish (a .face) (a .material)) _ _ _
-    (c .before .before .before .before .before .before .before .is-permitted .ensures ∙ ap (λ (old : ℕ). permitted old (a .material)) (c .before .before .before .before .before .before .before .before .word-at .ensures)) (λ h. refl)
+    (at-is-permitted .is-permitted .ensures ∙ ap (λ (old : ℕ). permitted old (a .material)) (at-word-at .word-at .ensures)) (λ h. refl)
 
 pub paint-spec : {M : Type 1} → statement M
 paint-spec = tie.close (tie.spec (search needs) (search needs) (search needs) returns word-at-requires (search needs) edit-requires (search needs) (search needs) returns-2)

@@ -47,8 +47,10 @@ one c = c .unwind-from .ensures
 
 unwind-from-requires : tie.Need-unwind-from-requires
 unwind-from-requires c κs =
-    let m = met (c .before .before .before) in
-    let a = c .before .before .before .before .before .before .before .before .before .args in
+    let there = c .before .before .before in
+    let start = there .before .before .before .before .before .before in
+    let m = met there in
+    let a = start .args in
     (m .right, rw part-all (omega (arith, m .good, length-drop (size * (a .k - 1)) (now (a .journal)))))
 
 returns-3 : tie.Need-returns-3

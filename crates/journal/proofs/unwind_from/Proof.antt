@@ -29,7 +29,10 @@ turn-requires : tie.Need-turn-requires Inv-loop μ-loop
 turn-requires c κs = c .before .before .before .before .loop .inv .2
 
 same-length : tie.Need-same-length Inv-loop μ-loop
-same-length c = c .before .before .before .turn .kept .0 ∙ c .before .before .before .before .before .before .before .before .loop .inv .1
+same-length c =
+    let at-turn = c .before .before .before in
+    let at-loop = at-turn .before .before .before .before .before in
+    at-turn .turn .kept .0 ∙ at-loop .loop .inv .1
 
 -- the record that is laid on
 laid : (c : tie.After-flipped Inv-loop μ-loop) → let a = c .before .before .before .before .before .before .args in c .flipped .result ≡ flip (recordAt (a .journal .now) (size * (c .before .before .before .loop .i - 1)))
@@ -37,22 +40,32 @@ laid c = c .flipped .ensures ∙ ap flip (c .before .get-record .ensures)
 
 returns : tie.Need-returns Inv-loop μ-loop
 returns c =
-    let a = c .before .before .before .before .before .before .before .before .before .before .before .args in
-    let q = c .before .before .before .before .before .before .before .before .loop in
-    let h = rw (laid (c .before .before .before .before .before)) at (c .before .before .before .turn .ensures) in
-    let f = sym (h .0) ∙ not-true (c .before .before .before .turn .result) (c .if1 .taken) in
-    rw (h .1, f) (sym (unwind-halt areaFloor (a .journal .now) (q .floor) (q .i) (c .before .before .before .before .before .before .before .loop-test .taken) f) ∙ q .inv .3)
+    let at-turn = c .before .before .before in
+    let there = at-turn .before .before in
+    let in-loop = there .before .before in
+    let at-loop = in-loop .before in
+    let start = at-loop .before .before .before in
+    let a = start .args in
+    let q = at-loop .loop in
+    let h = rw (laid there) at (at-turn .turn .ensures) in
+    let f = sym (h .0) ∙ not-true (at-turn .turn .result) (c .if1 .taken) in
+    rw (h .1, f) (sym (unwind-halt areaFloor (a .journal .now) (q .floor) (q .i) (in-loop .loop-test .taken) f) ∙ q .inv .3)
 
 loop-again : tie.Need-loop-again Inv-loop μ-loop
 loop-again c =
-    let a = c .before .before .before .before .before .before .before .before .before .before .before .args in
-    let q = c .before .before .before .before .before .before .before .before .loop in
-    let h = rw (laid (c .before .before .before .before .before)) at (c .before .before .before .turn .ensures) in
-    let f = sym (h .0) ∙ not-false (c .before .before .before .turn .result) (c .if1 .left) in (
+    let at-turn = c .before .before .before in
+    let there = at-turn .before .before in
+    let in-loop = there .before .before in
+    let at-loop = in-loop .before in
+    let start = at-loop .before .before .before in
+    let a = start .args in
+    let q = at-loop .loop in
+    let h = rw (laid there) at (at-turn .turn .ensures) in
+    let f = sym (h .0) ∙ not-false (at-turn .turn .result) (c .if1 .left) in (
       omega arith,
-      c .before .before .before .turn .kept .0 ∙ q .inv .1,
+      at-turn .turn .kept .0 ∙ q .inv .1,
       rw (h .1, f) (lay-right (q .floor) _ (q .inv .2) (fits-inside areaFloor (q .floor) _ f)),
-      rw (h .1, f) (sym (unwind-turn areaFloor (a .journal .now) (q .floor) (q .i) (c .before .before .before .before .before .before .before .loop-test .taken) f) ∙ q .inv .3),
+      rw (h .1, f) (sym (unwind-turn areaFloor (a .journal .now) (q .floor) (q .i) (in-loop .loop-test .taken) f) ∙ q .inv .3),
     )
 
 same-length-2 : tie.Need-same-length-2 Inv-loop μ-loop

@@ -4,13 +4,19 @@ use Rattle.journal.proofs.write.Statement.{statement}
 use Rattle.journal.proofs.write.Tie as tie
 
 lay-on-requires : tie.Need-lay-on-requires
-lay-on-requires c κs = rw (c .before .before .before .before .before .make .ensures) (let s = c .before .before .before .before .before .before .before .before .before .before in (s .pre .0, s .pre .1))
+lay-on-requires c κs =
+    let at-make = c .before .before .before .before .before in
+    let s = at-make .before .before .before .before .before in
+    rw (at-make .make .ensures) ((s .pre .0, s .pre .1))
 
 returns : tie.Need-returns
 returns c =
-    let m = c .before .before .before .before .before .before .before .before .make .ensures in
-    let o = c .before .before .before .before .before .before .before .before .before .word-at .ensures in
-    (rw (← o, ← m) (c .before .before .lay-on .ensures), rw (← o, ← m) (c .before .before .before .before .before .before .put-record .ensures))
+    let at-put-record = c .before .before .before .before .before .before in
+    let at-make = at-put-record .before .before in
+    let at-word-at = at-make .before in
+    let m = at-make .make .ensures in
+    let o = at-word-at .word-at .ensures in
+    (rw (← o, ← m) (c .before .before .lay-on .ensures), rw (← o, ← m) (at-put-record .put-record .ensures))
 
 pub write-spec : {M : Type 1} → statement M
 write-spec =

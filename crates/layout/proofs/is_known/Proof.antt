@@ -13,7 +13,7 @@ use Rattle.layout.proofs.is_known.Statement.{statement}
 use Rattle.layout.proofs.is_known.Tie as tie
 
 abbrev Inv-loop : tie.InvT-loop
-Inv-loop s starts n but w j₀ j = (j ≤ n) × (lowest j (another but w (namesOf (held s starts 0 n))) ≡ j)
+Inv-loop s starts n but w j₀ j = (j ≤ n) × (lowest j (another but w (namesOf (held s starts n))) ≡ j)
 
 abbrev μ-loop : tie.MeasureT-loop
 μ-loop s starts n but w j₀ j = n - j
@@ -25,27 +25,27 @@ is-named-requires : tie.Need-is-named-requires Inv-loop μ-loop
 is-named-requires c κs =
     let z = c .before in
     let g = z .before .before .before .before in
-    (omega (arith, g .pre), (g .pre .1 .0, g .pre .1 .1 .name (z .loop .j) (c .loop-test .taken)))
+    (omega (arith, g .pre .0 .inside, c .loop-test .taken), (g .pre .1, g .pre .0 .name (z .loop .j) (c .loop-test .taken)))
 
 returns : tie.Need-returns Inv-loop μ-loop
 returns c =
     let z = c .before .before .before in
     let g = z .before .before .before .before in
     let l = c .before .before .loop-test .taken in
-    known-hit _ _ _ _ _ _ (g .pre .0) l (z .loop .inv .1) (known-turn _ _ _ _ _ _ _ true (g .pre .0) l (c .before .is-named .ensures) (c .if1 .taken))
+    known-hit _ _ _ _ _ _ (g .pre .0 .inside) l (z .loop .inv .1) (known-turn _ _ _ _ _ _ _ true (g .pre .0 .inside) l (c .before .is-named .ensures) (c .if1 .taken))
 
 loop-again : tie.Need-loop-again Inv-loop μ-loop
 loop-again c =
     let z = c .before .before .before in
     let g = z .before .before .before .before in
     let l = c .before .before .loop-test .taken in
-    (omega arith, lowest-more _ _ (z .loop .inv .1) (known-turn _ _ _ _ _ _ _ false (g .pre .0) l (c .before .is-named .ensures) (c .if1 .left)))
+    (omega arith, lowest-more _ _ (z .loop .inv .1) (known-turn _ _ _ _ _ _ _ false (g .pre .0 .inside) l (c .before .is-named .ensures) (c .if1 .left)))
 
 returns-2 : tie.Need-returns-2 Inv-loop μ-loop
 returns-2 c =
     let z = c .before in
     let g = z .before .before .before .before in
-    known-none _ _ _ _ _ _ (g .pre .0) (c .loop-test .left) (z .loop .inv .1)
+    known-none _ _ _ _ _ _ (g .pre .0 .inside) (c .loop-test .left) (z .loop .inv .1)
 
 pub is-known-spec : {M : Type 1} → statement M
 is-known-spec =

@@ -30,16 +30,23 @@ returns-2 c =
 
 write-form-requires : tie.Need-write-form-requires
 write-form-requires c κs =
-    let r = c .before .before .before .before .before .before in
-    ((answered _ _ (r .read .ensures) .held, rename-name _ _ (r .read .ensures) _ _ (c .before .before .before .before .before .before .before .before .before .before .args .out .now) _ (c .before .before .before .name-verdict .ensures) (c .before .before .before .before .if1 .left) (c .before .if2 .left)), rename-short _ _ (r .read .ensures) _ _ (c .before .before .before .before .before .before .before .before .before .before .args .out .now) _ (c .before .before .before .name-verdict .ensures) (c .before .before .before .before .if1 .left) (c .before .if2 .left))
+    let at-name-verdict = c .before .before .before in
+    let at-if1 = at-name-verdict .before in
+    let r = at-if1 .before .before in
+    let start = r .before .before .before .before in
+    ((answered _ _ (r .read .ensures) .held, rename-name _ _ (r .read .ensures) _ _ (start .args .out .now) _ (at-name-verdict .name-verdict .ensures) (at-if1 .if1 .left) (c .before .if2 .left)), rename-short _ _ (r .read .ensures) _ _ (start .args .out .now) _ (at-name-verdict .name-verdict .ensures) (at-if1 .if1 .left) (c .before .if2 .left))
 
 same-length : tie.Need-same-length
 same-length c = search needs
 
 returns-3 : tie.Need-returns-3
 returns-3 c =
-    let r = c .before .before .before .before .before .before .before .before .before in
-    rename-by _ _ (r .read .ensures) _ _ (c .before .before .before .before .before .before .before .before .before .before .before .before .before .args .out .now) _ (c .before .before .before .before .before .before .name-verdict .ensures) (c .before .before .before .before .before .before .before .if1 .left) (c .before .before .before .before .if2 .left) _ _ (c .before .before .write-form .ensures)
+    let at-if2 = c .before .before .before .before in
+    let at-name-verdict = at-if2 .before .before in
+    let at-if1 = at-name-verdict .before in
+    let r = at-if1 .before .before in
+    let start = r .before .before .before .before in
+    rename-by _ _ (r .read .ensures) _ _ (start .args .out .now) _ (at-name-verdict .name-verdict .ensures) (at-if1 .if1 .left) (at-if2 .if2 .left) _ _ (c .before .before .write-form .ensures)
 
 pub layout-rename-spec : {M : Type 1} → statement M
 layout-rename-spec =

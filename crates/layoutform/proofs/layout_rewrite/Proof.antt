@@ -29,9 +29,10 @@ same-length c = search needs
 
 returns-2 : tie.Need-returns-2
 returns-2 c =
-    let g = c .before .before .before .before .before .before .before .before .before .before in
-    let r = c .before .before .before .before .before .before .before in
-    rewrite-by _ _ (r .read .ensures) [] _ _ (g .args .out .now) (c .before .before .before .before .before .if1 .left) (c .before .before .write-form .ensures)
+    let at-if1 = c .before .before .before .before .before in
+    let r = at-if1 .before .before in
+    let g = r .before .before .before in
+    rewrite-by _ _ (r .read .ensures) [] _ _ (g .args .out .now) (at-if1 .if1 .left) (c .before .before .write-form .ensures)
 
 pub layout-rewrite-spec : {M : Type 1} → statement M
 layout-rewrite-spec =

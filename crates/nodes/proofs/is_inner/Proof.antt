@@ -35,16 +35,20 @@ returns-3 c =
 returns-4 : tie.Need-returns-4
 unfolding isInner
 returns-4 c =
-    let s = c .before .before .before .before .before .before .before .before .before .before in
+    let at-node-count = c .before .before .before in
+    let at-if2 = at-node-count .before in
+    let at-is-plane = at-if2 .before in
+    let at-plane-of = at-is-plane .before in
+    let s = at-plane-of .before .before .before .before in
     let p = partsOf (now (s .args .bytes)) in
     let n = s .args .n in
-    let plane = ap isPlane (sym (c .before .before .before .before .before .before .plane-of .ensures)) ∙ sym (c .before .before .before .before .before .is-plane .ensures) in
+    let plane = ap isPlane (sym (at-plane-of .plane-of .ensures)) ∙ sym (at-is-plane .is-plane .ensures) in
     simp (
       eq-eqb (faceOf p n) none32 (omega arith),
-      plane ∙ not-false _ (c .before .before .before .before .if2 .left),
+      plane ∙ not-false _ (at-if2 .if2 .left),
       lt-ltb (leftOf p n) (p .nodes) (omega arith),
       c .right-of .ensures,
-      c .before .before .before .node-count .ensures .0,
+      at-node-count .node-count .ensures .0,
     ) refl
 
 pub is-inner-spec : {M : Type 1} → statement M

@@ -23,15 +23,21 @@ put-u32-requires-3 : tie.Need-put-u32-requires-3
 put-u32-requires-3 c κs = omega (arith, c .before .before .before .put-u322 .kept .0, simp length-set at (c .before .before .before .before .before .before .before .put-u32 .kept .0))
 
 same-length : tie.Need-same-length
-same-length c = c .before .before .put-u323 .kept .0 ∙ c .before .before .before .before .before .before .put-u322 .kept .0 ∙ c .before .before .before .before .before .before .before .before .before .before .put-u32 .kept .0 ∙ simp length-set
+same-length c =
+    let at-put-u322 = c .before .before .before .before .before .before in
+    let at-put-u32 = at-put-u322 .before .before .before .before in
+    c .before .before .put-u323 .kept .0 ∙ at-put-u322 .put-u322 .kept .0 ∙ at-put-u32 .put-u32 .kept .0 ∙ simp length-set
 
 returns : tie.Need-returns
 returns c =
-    let a = c .before .before .before .before .before .before .before .before .before .before .before .before .before .args in
+    let at-put-u322 = c .before .before .before .before .before .before in
+    let at-put-u32 = at-put-u322 .before .before .before .before in
+    let start = at-put-u32 .before .before .before in
+    let a = start .args in
     rw (
       c .before .before .put-u323 .ensures,
-      c .before .before .before .before .before .before .put-u322 .ensures,
-      c .before .before .before .before .before .before .before .before .before .before .put-u32 .ensures,
+      at-put-u322 .put-u322 .ensures,
+      at-put-u32 .put-u32 .ensures,
     )
     (put-record (a .journal .now) (a .at) (a .r))
 

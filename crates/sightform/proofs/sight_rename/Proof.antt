@@ -2,7 +2,7 @@
 use mathlib.Core.Path.{_≡_, sym}
 use lib.ListN.{length}
 use Rattle.layoutform.proofs.AnswerLaws.{rename-name}
-use Rattle.sight.proofs.AnswerLaws.{kept}
+use Rattle.rooms.proofs.RoomLaws.{rooms-kept}
 use Rattle.sightform.proofs.AnswerLaws.{rename-unread, rows-sized, rename-refused, rename-unnamed, rename-by}
 use borrow.Author.Needs.{needs}
 use Rattle.sightform.proofs.sight_rename.Statement.{statement}
@@ -19,7 +19,10 @@ refused-form-requires : tie.Need-refused-form-requires
 refused-form-requires c κs = search needs
 
 returns : tie.Need-returns
-returns c = rename-unread _ _ _ (c .before .before .before .read .ensures) (c .before .before .before .before .before .before .before .before .args .out .now) _ _ (c .before .if1 .taken) _ (c .refused-form .ensures)
+returns c =
+    let at-read = c .before .before .before in
+    let start = at-read .before .before .before .before .before in
+    rename-unread _ _ _ (at-read .read .ensures) (start .args .out .now) _ _ (c .before .if1 .taken) _ (c .refused-form .ensures)
 
 look-requires : tie.Need-look-requires
 look-requires c κs = search needs
@@ -28,7 +31,11 @@ refused-form-requires-2 : tie.Need-refused-form-requires-2
 refused-form-requires-2 c κs = search needs
 
 returns-2 : tie.Need-returns-2
-returns-2 c = rename-refused _ _ _ (c .before .before .before .before .before .before .read .ensures) (c .before .before .before .before .before .before .before .before .before .before .before .args .out .now) _ (c .before .before .before .look .ensures) _ _ (c .before .if2 .taken) _ (c .refused-form2 .ensures)
+returns-2 c =
+    let at-look = c .before .before .before in
+    let at-read = at-look .before .before .before in
+    let start = at-read .before .before .before .before .before in
+    rename-refused _ _ _ (at-read .read .ensures) (start .args .out .now) _ (at-look .look .ensures) _ _ (c .before .if2 .taken) _ (c .refused-form2 .ensures)
 
 name-verdict-requires : tie.Need-name-verdict-requires
 name-verdict-requires c κs = search needs
@@ -37,22 +44,44 @@ refused-form-requires-3 : tie.Need-refused-form-requires-3
 refused-form-requires-3 c κs = search needs
 
 returns-3 : tie.Need-returns-3
-returns-3 c = rename-unnamed _ _ _ (c .before .before .before .before .before .before .before .before .before .read .ensures) (c .before .before .before .before .before .before .before .before .before .before .before .before .before .before .args .out .now) _ (c .before .before .before .before .before .before .look .ensures) _ _ _ (c .before .before .before .name-verdict .ensures) (c .before .before .before .before .if2 .left) (c .before .if3 .taken) _ (c .refused-form3 .ensures)
+returns-3 c =
+    let at-name-verdict = c .before .before .before in
+    let at-if2 = at-name-verdict .before in
+    let at-look = at-if2 .before .before in
+    let at-read = at-look .before .before .before in
+    let start = at-read .before .before .before .before .before in
+    rename-unnamed _ _ _ (at-read .read .ensures) (start .args .out .now) _ (at-look .look .ensures) _ _ _ (at-name-verdict .name-verdict .ensures) (at-if2 .if2 .left) (c .before .if3 .taken) _ (c .refused-form3 .ensures)
 
 slice-aggregate-write-form : tie.Need-slice-aggregate-write-form
-slice-aggregate-write-form c = sym (sized (c .before .before .before .before .before .before .before .before .before .before .before .before))
+slice-aggregate-write-form c =
+    let there = c .before .before .before .before .before .before .before .before .before .before .before .before in
+    sym (sized there)
 
 slice-aggregate-write-form-2 : tie.Need-slice-aggregate-write-form-2
 slice-aggregate-write-form-2 c = search needs
 
 write-form-requires : tie.Need-write-form-requires
-write-form-requires c κs = ((rows-sized _ _ _ (c .before .before .before .before .before .before .before .before .before .before .before .before .before .read .ensures) (c .before .before .before .before .before .before .before .before .before .before .before .before .before .before .before .before .before .before .args .out .now) _ (c .before .before .before .before .before .before .before .before .before .before .look .ensures), rename-name _ _ (c .before .before .before .before .before .before .before .before .before .before .before .before .before .read .ensures) _ _ (c .before .before .before .before .before .before .before .before .before .before .before .before .before .before .before .before .before .before .args .out .now) _ (c .before .before .before .before .before .before .before .name-verdict .ensures) (c .before .before .before .before .before .before .before .before .before .before .before .if1 .left) (c .before .before .before .before .before .if3 .left)), kept _ (c .before .before .before .before .before .before .before .before .before .before .before .before .before .before .before .before .before .before .args .vis .now) _ (c .before .before .before .before .before .before .before .before .before .before .before .before .before .read .ensures))
+write-form-requires c κs =
+    let at-if3 = c .before .before .before .before .before in
+    let at-name-verdict = at-if3 .before .before in
+    let at-look = at-name-verdict .before .before .before in
+    let at-if1 = at-look .before in
+    let at-read = at-if1 .before .before in
+    let start = at-read .before .before .before .before .before in
+    ((rows-sized _ _ _ (at-read .read .ensures) (start .args .out .now) _ (at-look .look .ensures), rename-name _ _ (at-read .read .ensures) _ _ (start .args .out .now) _ (at-name-verdict .name-verdict .ensures) (at-if1 .if1 .left) (at-if3 .if3 .left)), rooms-kept _ _ (at-read .read .ensures))
 
 same-length : tie.Need-same-length
 same-length c = search needs
 
 returns-4 : tie.Need-returns-4
-returns-4 c = rename-by _ _ _ (c .before .before .before .before .before .before .before .before .before .before .before .before .before .before .before .before .read .ensures) (c .before .before .before .before .before .before .before .before .before .before .before .before .before .before .before .before .before .before .before .before .before .args .out .now) _ (c .before .before .before .before .before .before .before .before .before .before .before .before .before .look .ensures) _ _ _ (c .before .before .before .before .before .before .before .before .before .before .name-verdict .ensures) (c .before .before .before .before .before .before .before .before .before .before .before .if2 .left) _ _ (c .before .before .before .before .before .before .before .before .if3 .left) (c .before .before .write-form .ensures)
+returns-4 c =
+    let at-if3 = c .before .before .before .before .before .before .before .before in
+    let at-name-verdict = at-if3 .before .before in
+    let at-if2 = at-name-verdict .before in
+    let at-look = at-if2 .before .before in
+    let at-read = at-look .before .before .before in
+    let start = at-read .before .before .before .before .before in
+    rename-by _ _ _ (at-read .read .ensures) (start .args .out .now) _ (at-look .look .ensures) _ _ _ (at-name-verdict .name-verdict .ensures) (at-if2 .if2 .left) _ _ (at-if3 .if3 .left) (c .before .before .write-form .ensures)
 
 pub sight-rename-spec : {M : Type 1} → statement M
 sight-rename-spec =

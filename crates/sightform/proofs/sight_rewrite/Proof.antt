@@ -1,7 +1,7 @@
 -- `sightform::sight_rewrite` meets its contract. Assumes nothing.
 use mathlib.Core.List.{[]}
 use native.Mathlib.Omega.{arith}
-use Rattle.sight.proofs.AnswerLaws.{kept}
+use Rattle.rooms.proofs.RoomLaws.{rooms-kept}
 use Rattle.sightform.proofs.AnswerLaws.{rewrite-unread, rows-sized, rewrite-refused, rewrite-by}
 use borrow.Author.Needs.{needs}
 use Rattle.sightform.proofs.sight_rewrite.Statement.{statement}
@@ -14,7 +14,10 @@ refused-form-requires : tie.Need-refused-form-requires
 refused-form-requires c κs = search needs
 
 returns : tie.Need-returns
-returns c = rewrite-unread _ _ _ (c .before .before .before .read .ensures) (c .before .before .before .before .before .before .before .args .out .now) (c .before .if1 .taken) _ (c .refused-form .ensures)
+returns c =
+    let at-read = c .before .before .before in
+    let start = at-read .before .before .before .before in
+    rewrite-unread _ _ _ (at-read .read .ensures) (start .args .out .now) (c .before .if1 .taken) _ (c .refused-form .ensures)
 
 look-requires : tie.Need-look-requires
 look-requires c κs = search needs
@@ -23,7 +26,11 @@ refused-form-requires-2 : tie.Need-refused-form-requires-2
 refused-form-requires-2 c κs = search needs
 
 returns-2 : tie.Need-returns-2
-returns-2 c = rewrite-refused _ _ _ (c .before .before .before .before .before .before .read .ensures) (c .before .before .before .before .before .before .before .before .before .before .args .out .now) _ (c .before .before .before .look .ensures) (c .before .if2 .taken) _ (c .refused-form2 .ensures)
+returns-2 c =
+    let at-look = c .before .before .before in
+    let at-read = at-look .before .before .before in
+    let start = at-read .before .before .before .before in
+    rewrite-refused _ _ _ (at-read .read .ensures) (start .args .out .now) _ (at-look .look .ensures) (c .before .if2 .taken) _ (c .refused-form2 .ensures)
 
 slice-aggregate-write-form : tie.Need-slice-aggregate-write-form
 slice-aggregate-write-form c = search needs
@@ -35,13 +42,22 @@ slice-aggregate-write-form-3 : tie.Need-slice-aggregate-write-form-3
 slice-aggregate-write-form-3 c = search needs
 
 write-form-requires : tie.Need-write-form-requires
-write-form-requires c κs = ((rows-sized _ _ _ (c .before .before .before .before .before .before .before .before .before .before .before .read .ensures) (c .before .before .before .before .before .before .before .before .before .before .before .before .before .before .before .args .out .now) _ (c .before .before .before .before .before .before .before .before .look .ensures), omega arith), kept _ (c .before .before .before .before .before .before .before .before .before .before .before .before .before .before .before .args .vis .now) _ (c .before .before .before .before .before .before .before .before .before .before .before .read .ensures))
+write-form-requires c κs =
+    let at-look = c .before .before .before .before .before .before .before .before in
+    let at-read = at-look .before .before .before in
+    let start = at-read .before .before .before .before in
+    ((rows-sized _ _ _ (at-read .read .ensures) (start .args .out .now) _ (at-look .look .ensures), omega arith), rooms-kept _ _ (at-read .read .ensures))
 
 same-length : tie.Need-same-length
 same-length c = search needs
 
 returns-3 : tie.Need-returns-3
-returns-3 c = rewrite-by _ _ _ (c .before .before .before .before .before .before .before .before .before .before .before .before .before .before .read .ensures) (c .before .before .before .before .before .before .before .before .before .before .before .before .before .before .before .before .before .before .args .out .now) _ (c .before .before .before .before .before .before .before .before .before .before .before .look .ensures) [] _ _ (c .before .before .before .before .before .before .before .before .before .if2 .left) (c .before .before .write-form .ensures .0, c .before .before .write-form .ensures .1)
+returns-3 c =
+    let at-if2 = c .before .before .before .before .before .before .before .before .before in
+    let at-look = at-if2 .before .before in
+    let at-read = at-look .before .before .before in
+    let start = at-read .before .before .before .before in
+    rewrite-by _ _ _ (at-read .read .ensures) (start .args .out .now) _ (at-look .look .ensures) [] _ _ (at-if2 .if2 .left) (c .before .before .write-form .ensures .0, c .before .before .write-form .ensures .1)
 
 pub sight-rewrite-spec : {M : Type 1} → statement M
 sight-rewrite-spec =

@@ -31,10 +31,13 @@ inside c = leaves-within (parts c) (start c .pre .0 .1)
 half : (c : tie.After-slice-known4)
     → Half (list c) (parts c .faces) (now (start c .args .work)) (c .before .before .look-and-clear .last .0) (c .before .before .before .before .before .before .mark-faces .result) (c .before .before .look-and-clear .result)
 half c =
-    let clear = c .before .before .before .before .before .before .before .before .before .before .clear in
-    let mark = c .before .before .before .before .before .before .mark-faces in
+    let at-mark-faces = c .before .before .before .before .before .before in
+    let at-clear = at-mark-faces .before .before .before .before in
+    let at-face-count = at-clear .before .before in
+    let clear = at-clear .clear in
+    let mark = at-mark-faces .mark-faces in
     let look = c .before .before .look-and-clear in
-    let count = c .before .before .before .before .before .before .before .before .before .before .before .before .face-count .ensures in
+    let count = at-face-count .face-count .ensures in
     record {
       w₁ = clear .last .0;
       w₂ = mark .last .1 .0;

@@ -39,11 +39,14 @@ box-of-requires-3 c κs = let s = c .before .before .before .before .before .bef
 
 returns-2 : tie.Need-returns-2
 returns-2 c =
-    let s = c .before .before .before .before .before .before .before .before .before in
+    let at-if1 = c .before .before .before in
+    let there = at-if1 .before in
+    let at-box-of = there .before .before .before in
+    let s = at-box-of .before .before in
     let p = partsOf (now (s .args .bytes)) in
     let e : c .holds-box2 .result ≡ holdsBox (boxOf p (s .args .n)) (boxOf p (rightOf p (s .args .n))) =
-    rw (c .holds-box2 .ensures, c .before .before .before .before .before .before .before .box-of .ensures, c .before .box-of3 .ensures, c .before .before .right-of .ensures) in
-    e ∙ by-right p (s .args .n) (told (c .before .before .before .before) ∙ not-false _ (c .before .before .before .if1 .left))
+    rw (c .holds-box2 .ensures, at-box-of .box-of .ensures, c .before .box-of3 .ensures, c .before .before .right-of .ensures) in
+    e ∙ by-right p (s .args .n) (told there ∙ not-false _ (at-if1 .if1 .left))
 
 pub holds-children-spec : {M : Type 1} → statement M
 holds-children-spec =

@@ -46,7 +46,11 @@ leaf : (c : tie.Then1 Inv-loop μ-loop) → nodesOf (parts (c .before .before .b
 leaf c = sym (c .before .is-inner-node .ensures) ∙ not-true _ (c .if1 .taken)
 
 small : (c : tie.After-face-of Inv-loop μ-loop) → c .face-of .result < parts (c .before .before .before .before .before .before .before .before) .faces
-small c = rw (c .face-of .ensures) (c .before .before .before .before .before .before .before .before .pre .0 .1 .face (c .before .before .before .before .loop .n) (under (c .before .before .before)) (leaf (c .before)))
+small c =
+    let there = c .before .before .before in
+    let at-loop = there .before in
+    let start = at-loop .before .before .before .before in
+    rw (c .face-of .ensures) (start .pre .0 .1 .face (at-loop .loop .n) (under there) (leaf (c .before)))
 
 slice-read-if2 : tie.Need-slice-read-if2 Inv-loop μ-loop
 slice-read-if2 c = omega (arith, small (c .before))
@@ -56,10 +60,13 @@ same-length c = c .before .before .before .before .before .before .loop .inv .1
 
 returns : tie.Need-returns Inv-loop μ-loop
 returns c =
-    let s = c .before .before .before .before .before .before .before .before .before .before in
-    let l = c .before .before .before .before .before .before .loop in
+    let there = c .before .before .before in
+    let there-there = there .before .before in
+    let at-loop = there-there .before in
+    let s = at-loop .before .before .before .before in
+    let l = at-loop .loop in
     face-hit (nodesOf (parts s)) (faceOf (parts s)) (now (s .args .work)) (l .work) (l .n) (l .inv .2) (l .inv .3)
-    (leaf (c .before .before .before)) (parts s .nodes) (under (c .before .before .before .before .before)) (rw (c .before .before .face-of .ensures) at (c .if2 .taken))
+    (leaf there) (parts s .nodes) (under (there-there)) (rw (c .before .before .face-of .ensures) at (c .if2 .taken))
 
 slice-write-work : tie.Need-slice-write-work Inv-loop μ-loop
 slice-write-work c = omega (arith, small (c .before .before))

@@ -31,10 +31,13 @@ inside c = nodes-within (parts c) (start c .pre .0 .1) 64 (start c .args .root) 
 half : (c : tie.After-slice-known4)
     → Half (list c) (parts c .nodes) (now (start c .args .work)) (c .before .before .look-and-clear .last .0) (c .before .before .before .before .before .before .walk .result) (c .before .before .look-and-clear .result)
 half c =
-    let clear = c .before .before .before .before .before .before .before .before .before .before .clear in
-    let mark = c .before .before .before .before .before .before .walk in
+    let at-walk = c .before .before .before .before .before .before in
+    let at-clear = at-walk .before .before .before .before in
+    let at-node-count = at-clear .before .before in
+    let clear = at-clear .clear in
+    let mark = at-walk .walk in
     let look = c .before .before .look-and-clear in
-    let count = c .before .before .before .before .before .before .before .before .before .before .before .before .node-count .ensures in
+    let count = at-node-count .node-count .ensures in
     record {
       w₁ = clear .last .0;
       w₂ = mark .last .1 .0;

@@ -24,7 +24,7 @@ is-known-requires : tie.Need-is-known-requires
 is-known-requires c κs =
     let x = c .before .before .before .before in
     let g = x .before .before .before .before .before .before .before .before in
-    (omega (arith, g .pre), (sym (x .before .is-name .ensures) ∙ x .if2 .taken, g .pre .1 .1))
+    (g .pre, sym (x .before .is-name .ensures) ∙ x .if2 .taken)
 
 returns-3 : tie.Need-returns-3
 unfolding stateOf
@@ -34,7 +34,7 @@ returns-3 c =
     let x = y .before .before in
     let w = x .before .before .before in
     let g = w .before .before .before .before .before in
-    entry-room _ _ _ (w .before .word-count .ensures) (w .if1 .left) _ (x .before .before .word .ensures) _ (x .before .is-name .ensures) (x .if2 .taken) _ (y .before .is-placed .ensures) _ true (y .if3 .taken) (e .if4 .left) (omega (arith, held-long (g .args .s .now) (g .args .starts .now) 0 (g .args .st .rooms) (omega (arith, g .pre)))) (c .before .is-known .ensures) (c .if5 .taken)
+    entry-room _ _ _ (w .before .word-count .ensures) (w .if1 .left) _ (x .before .before .word .ensures) _ (x .before .is-name .ensures) (x .if2 .taken) _ (y .before .is-placed .ensures) _ true (y .if3 .taken) (e .if4 .left) (omega (arith, g .pre .few, held-long (g .args .s .now) (g .args .starts .now) (g .args .st .rooms) (g .pre .inside))) (c .before .is-known .ensures) (c .if5 .taken)
 
 returns-4 : tie.Need-returns-4
 unfolding stateOf
@@ -44,7 +44,7 @@ returns-4 c =
     let x = y .before .before in
     let w = x .before .before .before in
     let g = w .before .before .before .before .before in
-    entry-room _ _ _ (w .before .word-count .ensures) (w .if1 .left) _ (x .before .before .word .ensures) _ (x .before .is-name .ensures) (x .if2 .taken) _ (y .before .is-placed .ensures) _ false (y .if3 .taken) (e .if4 .left) (omega (arith, held-long (g .args .s .now) (g .args .starts .now) 0 (g .args .st .rooms) (omega (arith, g .pre)))) (c .before .is-known .ensures) (c .if5 .left)
+    entry-room _ _ _ (w .before .word-count .ensures) (w .if1 .left) _ (x .before .before .word .ensures) _ (x .before .is-name .ensures) (x .if2 .taken) _ (y .before .is-placed .ensures) _ false (y .if3 .taken) (e .if4 .left) (omega (arith, g .pre .few, held-long (g .args .s .now) (g .args .starts .now) (g .args .st .rooms) (g .pre .inside))) (c .before .is-known .ensures) (c .if5 .left)
 
 returns-5 : tie.Need-returns-5
 returns-5 c =

@@ -6,12 +6,19 @@ use Rattle.layoutform.proofs.print.put_coordinate.Statement.{statement}
 use Rattle.layoutform.proofs.print.put_coordinate.Tie as tie
 
 put-number-requires : tie.Need-put-number-requires
-put-number-requires c κs = (omega (arith, c .before .before .before .before .put-byte .ensures .next, c .before .before .before .before .before .before .before .before .before .before .pre), six-places _ _ (c .with-six .ensures))
+put-number-requires c κs =
+    let at-put-byte = c .before .before .before .before in
+    let start = at-put-byte .before .before .before .before .before .before in
+    (omega (arith, at-put-byte .put-byte .ensures .next, start .pre), six-places _ _ (c .with-six .ensures))
 
 returns : tie.Need-returns
 returns c =
-    let g = c .before .before .before .before .before .before .before .before .before .before .before .before .before in
-    coordinate-wrote (g .args .l .now) (g .args .k) _ _ _ (c .before .before .before .before .before .before .before .before .before .before .word .ensures) (c .before .before .before .before .before .before .before .before .before .number .ensures) (c .before .before .before .with-six .ensures) (c .before .before .before .before .before .before .before .put-byte .ensures) (c .before .before .put-number .ensures)
+    let at-with-six = c .before .before .before in
+    let at-put-byte = at-with-six .before .before .before .before in
+    let at-number = at-put-byte .before .before in
+    let at-word = at-number .before in
+    let g = at-word .before .before .before in
+    coordinate-wrote (g .args .l .now) (g .args .k) _ _ _ (at-word .word .ensures) (at-number .number .ensures) (at-with-six .with-six .ensures) (at-put-byte .put-byte .ensures) (c .before .before .put-number .ensures)
 
 pub put-coordinate-spec : {M : Type 1} → statement M
 put-coordinate-spec =

@@ -1,12 +1,11 @@
 -- `layoutform::print::put_entries` meets its contract. Assumes nothing.
 use native.Mathlib.Omega.{arith}
-use Prim.Native.Nat.{_+_, _*_, _-_, _≤_}
+use Prim.Native.Nat.{_-_}
 use mathlib.Core.List.{map}
 use lib.ListN.{take}
 use Rattle.letters.specs.Case.{lowered}
-use Rattle.printer.specs.Write.{Wrote}
 use Rattle.text.specs.Written.{written}
-use Rattle.printer.proofs.WriteLaws.{wrote-long}
+use Rattle.printer.proofs.WriteLaws.{Printing, wrote-long}
 use Rattle.layoutform.specs.Form.{entryOf, entryLine}
 use Rattle.layoutform.specs.Rewrite.{renamedAt}
 use Rattle.layout.specs.Starts.{held}
@@ -15,38 +14,48 @@ use Rattle.layoutform.proofs.print.put_entries.Statement.{statement}
 use Rattle.layoutform.proofs.print.put_entries.Tie as tie
 
 abbrev Inv-loop : tie.InvT-loop
-Inv-loop out₀ at s starts from n i name e₀ j₀ out e j = (j ≤ n) × ((e ≤ at + 59 * j) × Wrote out₀ out at e (written (map entryLine (take j (renamedAt (map entryOf (held s starts from n)) i (lowered name))))))
+Inv-loop out₀ at s starts n i name e₀ j₀ out e j =
+    Printing out₀ out at e 59 j n (written (map entryLine (take j (renamedAt (map entryOf (held s starts n)) i (lowered name)))))
 
 abbrev μ-loop : tie.MeasureT-loop
-μ-loop out₀ at s starts from n i name e₀ j₀ out e j = n - j
+μ-loop out₀ at s starts n i name e₀ j₀ out e j = n - j
 
 loop-holds : tie.Need-loop-holds Inv-loop μ-loop
 loop-holds c =
     let g = c .before .before .before .before in
-    (omega arith, (omega arith, entries-start (g .args .s .now) (g .args .starts .now) (g .args .from) (g .args .n) (g .args .i) (g .args .name .now) (g .pre .1 .1 .1 .0) (g .pre .1 .1 .1 .1) (g .pre .1 .0) _ _))
+    record { few = omega arith; bound = omega arith; wrote = entries-start (g .args .s .now) (g .args .starts .now) (g .args .n) (g .args .i) (g .args .name .now) (g .pre .1 .1) (g .pre .1 .0) _ _ }
 
 put-one-requires : tie.Need-put-one-requires Inv-loop μ-loop
 put-one-requires c κs =
-    let g = c .before .before .before .before .before .before .before .before .before in
-    let z = c .before .before .before .before in
-    (omega (arith, z .loop .inv .1 .0, c .before .before .before .loop-test .taken, g .pre), (g .pre .1 .0, asked-short (g .args .s .now) (g .args .starts .now) (g .args .from) (g .args .n) (g .args .i) (g .args .name .now) (g .pre .1 .1 .1 .0) (g .pre .1 .1 .1 .1) (g .pre .1 .0) (z .loop .j) _ (c .before .before .before .loop-test .taken) (c .before .line-at .ensures)))
+    let i = c .before .before .before in
+    let z = i .before in
+    let g = z .before .before .before .before .before in
+    (omega (arith, z .loop .inv .bound, i .loop-test .taken, g .pre .0, g .pre .1 .1 .few), (g .pre .1 .0, asked-short (g .args .s .now) (g .args .starts .now) (g .args .n) (g .args .i) (g .args .name .now) (g .pre .1 .1) (g .pre .1 .0) (z .loop .j) _ (i .loop-test .taken) (c .before .line-at .ensures)))
 
 loop-again : tie.Need-loop-again Inv-loop μ-loop
 loop-again c =
-    let g = c .before .before .before .before .before .before .before .before .before .before .before .before in
-    let z = c .before .before .before .before .before .before .before in
-    let l = c .before .before .before .before .before .before .loop-test .taken in
-    (omega arith, (omega (arith, z .loop .inv .1 .0, entries-further _ _ _ _ _ _ (g .pre .1 .1 .1 .0) (g .pre .1 .1 .1 .1) (g .pre .1 .0) (z .loop .j) _ l (c .before .before .before .before .line-at .ensures) (z .loop .inv .1 .1) (c .before .before .put-one .ensures)), entries-more _ _ _ _ _ _ (g .pre .1 .1 .1 .0) (g .pre .1 .1 .1 .1) (g .pre .1 .0) (z .loop .j) _ l (c .before .before .before .before .line-at .ensures) (z .loop .inv .1 .1) (c .before .before .put-one .ensures)))
+    let p = c .before .before in
+    let k = p .before .before in
+    let i = k .before .before in
+    let z = i .before in
+    let g = z .before .before .before .before .before in
+    let l = i .loop-test .taken in
+    record {
+      few = omega arith;
+      bound = omega (arith, z .loop .inv .bound, entries-further _ _ _ _ _ (g .pre .1 .1) (g .pre .1 .0) (z .loop .j) _ l (k .line-at .ensures) (z .loop .inv .wrote) (p .put-one .ensures));
+      wrote = entries-more _ _ _ _ _ (g .pre .1 .1) (g .pre .1 .0) (z .loop .j) _ l (k .line-at .ensures) (z .loop .inv .wrote) (p .put-one .ensures);
+    }
 
 same-length : tie.Need-same-length Inv-loop μ-loop
-same-length c = wrote-long (c .before .loop .inv .1 .1)
+same-length c = wrote-long (c .before .loop .inv .wrote)
 
 returns : tie.Need-returns Inv-loop μ-loop
 returns c =
-    let g = c .before .before .before .before .before .before in
-    (entries-done _ _ _ _ _ _ (g .pre .1 .1 .1 .0) (g .pre .1 .1 .1 .1) (g .pre .1 .0) _ (c .loop-test .left) (c .before .loop .inv .1 .1), omega (arith, c .before .loop .inv .1 .0, c .before .loop .inv .0))
+    let z = c .before in
+    let g = z .before .before .before .before .before in
+    (entries-done _ _ _ _ _ (g .pre .1 .1) (g .pre .1 .0) _ (c .loop-test .left) (z .loop .inv .wrote), omega (arith, z .loop .inv .bound, z .loop .inv .few))
 
 pub put-entries-spec : {M : Type 1} → statement M
 put-entries-spec =
     tie.close
-    (tie.spec Inv-loop μ-loop loop-holds (λ c. omega arith) (λ c. omega arith) (λ c. omega arith) (λ c κs. tt) put-one-requires (λ c. omega arith) (λ c. omega arith) loop-again same-length returns)
+    (tie.spec Inv-loop μ-loop loop-holds (λ c. omega arith) (λ c. omega arith) (λ c κs. tt) put-one-requires (λ c. omega arith) (λ c. omega arith) loop-again same-length returns)

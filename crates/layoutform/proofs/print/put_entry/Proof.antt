@@ -14,20 +14,43 @@ far : (c : tie.After-put-lowered) → c .put-lowered .result ≤ c .before .befo
 far c = omega (arith, c .put-lowered .ensures .next, length-lowered (c .before .before .before .before .before .args .w .now), c .before .before .before .before .before .pre)
 
 put-coordinate-requires : tie.Need-put-coordinate-requires
-put-coordinate-requires c κs = omega (arith, far (c .before .before .before), c .before .before .before .before .before .before .before .before .pre)
+put-coordinate-requires c κs =
+    let there = c .before .before .before in
+    let start = there .before .before .before .before .before in
+    omega (arith, far there, start .pre)
 
 put-coordinate-requires-2 : tie.Need-put-coordinate-requires-2
-put-coordinate-requires-2 c κs = omega (arith, coordinate-end _ (c .before .before .before .put-coordinate .ensures), far (c .before .before .before .before .before .before .before), c .before .before .before .before .before .before .before .before .before .before .before .before .pre)
+put-coordinate-requires-2 c κs =
+    let at-put-coordinate = c .before .before .before in
+    let there = at-put-coordinate .before .before .before .before in
+    let start = there .before .before .before .before .before in
+    omega (arith, coordinate-end _ (at-put-coordinate .put-coordinate .ensures), far there, start .pre)
 
 put-coordinate-requires-3 : tie.Need-put-coordinate-requires-3
-put-coordinate-requires-3 c κs = omega (arith, coordinate-end _ (c .before .before .before .put-coordinate2 .ensures), coordinate-end _ (c .before .before .before .before .before .before .before .put-coordinate .ensures), far (c .before .before .before .before .before .before .before .before .before .before .before), c .before .before .before .before .before .before .before .before .before .before .before .before .before .before .before .before .pre)
+put-coordinate-requires-3 c κs =
+    let at-put-coordinate2 = c .before .before .before in
+    let at-put-coordinate = at-put-coordinate2 .before .before .before .before in
+    let there = at-put-coordinate .before .before .before .before in
+    let start = there .before .before .before .before .before in
+    omega (arith, coordinate-end _ (at-put-coordinate2 .put-coordinate2 .ensures), coordinate-end _ (at-put-coordinate .put-coordinate .ensures), far there, start .pre)
 
 put-byte-requires : tie.Need-put-byte-requires
-put-byte-requires c κs = omega (arith, coordinate-end _ (c .before .before .before .put-coordinate3 .ensures), coordinate-end _ (c .before .before .before .before .before .before .before .put-coordinate2 .ensures), coordinate-end _ (c .before .before .before .before .before .before .before .before .before .before .before .put-coordinate .ensures), far (c .before .before .before .before .before .before .before .before .before .before .before .before .before .before .before), c .before .before .before .before .before .before .before .before .before .before .before .before .before .before .before .before .before .before .before .before .pre)
+put-byte-requires c κs =
+    let at-put-coordinate3 = c .before .before .before in
+    let at-put-coordinate2 = at-put-coordinate3 .before .before .before .before in
+    let at-put-coordinate = at-put-coordinate2 .before .before .before .before in
+    let there = at-put-coordinate .before .before .before .before in
+    let start = there .before .before .before .before .before in
+    omega (arith, coordinate-end _ (at-put-coordinate3 .put-coordinate3 .ensures), coordinate-end _ (at-put-coordinate2 .put-coordinate2 .ensures), coordinate-end _ (at-put-coordinate .put-coordinate .ensures), far there, start .pre)
 
 returns : tie.Need-returns
 unfolding entryLine entryNamed
-returns c = wrote-is _ (wrote-then (c .before .before .before .before .before .before .before .before .before .before .before .before .before .before .before .before .before .before .put-lowered .ensures) (wrote-then (c .before .before .before .before .before .before .before .before .before .before .before .before .before .before .put-coordinate .ensures) (wrote-then (c .before .before .before .before .before .before .before .before .before .before .put-coordinate2 .ensures) (wrote-then (c .before .before .before .before .before .before .put-coordinate3 .ensures) (c .before .before .put-byte .ensures))))) (entry-bytes _ _ _ _)
+returns c =
+    let at-put-coordinate3 = c .before .before .before .before .before .before in
+    let at-put-coordinate2 = at-put-coordinate3 .before .before .before .before in
+    let at-put-coordinate = at-put-coordinate2 .before .before .before .before in
+    let at-put-lowered = at-put-coordinate .before .before .before .before in
+    wrote-is _ (wrote-then (at-put-lowered .put-lowered .ensures) (wrote-then (at-put-coordinate .put-coordinate .ensures) (wrote-then (at-put-coordinate2 .put-coordinate2 .ensures) (wrote-then (at-put-coordinate3 .put-coordinate3 .ensures) (c .before .before .put-byte .ensures))))) (entry-bytes _ _ _ _)
 
 pub put-entry-spec : {M : Type 1} → statement M
 put-entry-spec =

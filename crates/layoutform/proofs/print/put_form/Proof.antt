@@ -7,7 +7,7 @@ use lib.ListN.{length}
 use Rattle.text.specs.Written.{ended, spaced, after}
 use Rattle.printer.proofs.WriteLaws.{wrote-long}
 use Rattle.layout.specs.Grammar.{beginlayout, roomcount, trackcount, obstaclecount, doorhookcount, donelayout}
-use Rattle.layoutform.proofs.WholeLaws.{head-end, kept-rooms, kept-tracks, kept-obstacles, form-wrote}
+use Rattle.layoutform.proofs.WholeLaws.{head-end, part-is, kept-rooms, kept-tracks, kept-obstacles, form-wrote}
 use Rattle.layoutform.proofs.print.put_form.Statement.{statement}
 use Rattle.layoutform.proofs.print.put_form.Tie as tie
 
@@ -15,71 +15,90 @@ use Rattle.layoutform.proofs.print.put_form.Tie as tie
 sized : (g : tie.Start) → length (g .args .r .starts) ≡ 192
 sized g = search needs
 
--- where the first line ends, and the door hooks' line
+-- ---- the calls, each seen from the next, and how far they come
+
+abbrev key-of : tie.After-put-section → tie.After-put-key
+key-of c = c .before .before .before .before .before .before
+
+abbrev rooms-of : tie.After-put-section2 → tie.After-put-section
+rooms-of c = c .before .before .before .before .before .before .before
+
+abbrev tracks-of : tie.After-put-section3 → tie.After-put-section2
+tracks-of c = c .before .before .before .before .before .before .before
+
+abbrev obstacles-of : tie.After-put-head → tie.After-put-section3
+obstacles-of c = c .before .before .before .before .before
+
+abbrev start-of : tie.After-put-key → tie.Start
+start-of c = c .before .before .before .before .before .before .before
+
 first : (c : tie.After-put-key) → c .put-key .result ≤ 14
 unfolding ended spaced after
 first c = omega (arith, c .put-key .ensures .next)
 
-hooks : (c : tie.After-put-head) → c .put-head .result ≤ c .before .before .before .before .before .put-section3 .result + 20
-unfolding doorhookcount
-hooks c = head-end doorhookcount 0 (omega arith) (c .put-head .ensures)
+rooms : (c : tie.After-put-section) → c .put-section .result ≤ 14 + 3796
+rooms c = omega (arith, c .put-section .ensures .1, first (key-of c))
 
-slice-aggregate-put-key : tie.Need-slice-aggregate-put-key
-slice-aggregate-put-key c = refl
+tracks : (c : tie.After-put-section2) → c .put-section2 .result ≤ 14 + 7592
+tracks c = omega (arith, c .put-section2 .ensures .1, rooms (rooms-of c))
+
+obstacles : (c : tie.After-put-section3) → c .put-section3 .result ≤ 14 + 11388
+obstacles c = omega (arith, c .put-section3 .ensures .1, tracks (tracks-of c))
+
+hooks : (c : tie.After-put-head) → c .put-head .result ≤ 14 + 11408
+unfolding doorhookcount
+hooks c = omega (arith, head-end doorhookcount 0 (omega arith) (c .put-head .ensures), obstacles (obstacles-of c))
+
+-- ---- what each call asks
 
 put-key-requires : tie.Need-put-key-requires
 put-key-requires c κs = (omega arith, omega arith)
 
-slice-aggregate-put-section : tie.Need-slice-aggregate-put-section
-slice-aggregate-put-section c = refl
-
 slice-aggregate-put-section-2 : tie.Need-slice-aggregate-put-section-2
-slice-aggregate-put-section-2 c = sym (sized (c .before .before .before .before .before .before .before .before .before .before .before .before))
+slice-aggregate-put-section-2 c = let k = c .before .before .before .before .before in sym (sized (start-of k))
 
 put-section-requires : tie.Need-put-section-requires
 put-section-requires c κs =
-    let g = c .before .before .before .before .before .before .before .before .before .before .before .before in
-    ((omega (arith, first (c .before .before .before .before .before)), (omega arith, g .pre .1)), kept-rooms _ _ (sized g) (g .pre .0))
+    let k = c .before .before .before .before .before in
+    let g = start-of k in
+    ((omega (arith, first k), (omega arith, g .pre .1)), kept-rooms _ _ (sized g) (g .pre .0))
 
-slice-aggregate-put-section-3 : tie.Need-slice-aggregate-put-section-3
-slice-aggregate-put-section-3 c = refl
-
-slice-aggregate-put-section-4 : tie.Need-slice-aggregate-put-section-4
-slice-aggregate-put-section-4 c = sym (sized (c .before .before .before .before .before .before .before .before .before .before .before .before .before .before .before .before .before .before))
+part-put-section-end : tie.Need-part-put-section-end
+part-put-section-end c = let r = c .before .before .before .before .before in omega (arith, sized (start-of (key-of r)))
 
 put-section-requires-2 : tie.Need-put-section-requires-2
 put-section-requires-2 c κs =
-    let g = c .before .before .before .before .before .before .before .before .before .before .before .before .before .before .before .before .before .before in
-    ((omega (arith, c .before .before .before .before .before .put-section .ensures .1, first (c .before .before .before .before .before .before .before .before .before .before .before)), (omega arith, g .pre .1)), kept-tracks _ _ (sized g) (g .pre .0))
+    let r = c .before .before .before .before .before .before in
+    let g = start-of (key-of r) in
+    ((omega (arith, rooms r), (omega arith, g .pre .1)), rw (part-is _ _ (sized g) (g .pre .0) 64 128 (omega arith)) (kept-tracks _ _ (sized g) (g .pre .0)))
 
-slice-aggregate-put-section-5 : tie.Need-slice-aggregate-put-section-5
-slice-aggregate-put-section-5 c = refl
-
-slice-aggregate-put-section-6 : tie.Need-slice-aggregate-put-section-6
-slice-aggregate-put-section-6 c = sym (sized (c .before .before .before .before .before .before .before .before .before .before .before .before .before .before .before .before .before .before .before .before .before .before .before .before))
+part-put-section-end-2 : tie.Need-part-put-section-end-2
+part-put-section-end-2 c = let t = c .before .before .before .before .before in omega (arith, sized (start-of (key-of (rooms-of t))))
 
 put-section-requires-3 : tie.Need-put-section-requires-3
 put-section-requires-3 c κs =
-    let g = c .before .before .before .before .before .before .before .before .before .before .before .before .before .before .before .before .before .before .before .before .before .before .before .before in
-    ((omega (arith, c .before .before .before .before .before .put-section2 .ensures .1, c .before .before .before .before .before .before .before .before .before .before .before .put-section .ensures .1, first (c .before .before .before .before .before .before .before .before .before .before .before .before .before .before .before .before .before)), (omega arith, g .pre .1)), kept-obstacles _ _ (sized g) (g .pre .0))
-
-slice-aggregate-put-head : tie.Need-slice-aggregate-put-head
-slice-aggregate-put-head c = refl
+    let t = c .before .before .before .before .before .before in
+    let g = start-of (key-of (rooms-of t)) in
+    ((omega (arith, tracks t), (omega arith, g .pre .1)), rw (part-is _ _ (sized g) (g .pre .0) 128 64 (omega arith)) (kept-obstacles _ _ (sized g) (g .pre .0)))
 
 put-head-requires : tie.Need-put-head-requires
-put-head-requires c κs = (omega (arith, c .before .before .before .before .put-section3 .ensures .1, c .before .before .before .before .before .before .before .before .before .before .put-section2 .ensures .1, c .before .before .before .before .before .before .before .before .before .before .before .before .before .before .before .before .put-section .ensures .1, first (c .before .before .before .before .before .before .before .before .before .before .before .before .before .before .before .before .before .before .before .before .before .before)), omega arith)
-
-slice-aggregate-put-key-2 : tie.Need-slice-aggregate-put-key-2
-slice-aggregate-put-key-2 c = refl
+put-head-requires c κs = let o = c .before .before .before .before in (omega (arith, obstacles o), omega arith)
 
 put-key-requires-2 : tie.Need-put-key-requires-2
-put-key-requires-2 c κs = (omega (arith, hooks (c .before .before .before .before), c .before .before .before .before .before .before .before .before .before .put-section3 .ensures .1, c .before .before .before .before .before .before .before .before .before .before .before .before .before .before .before .put-section2 .ensures .1, c .before .before .before .before .before .before .before .before .before .before .before .before .before .before .before .before .before .before .before .before .before .put-section .ensures .1, first (c .before .before .before .before .before .before .before .before .before .before .before .before .before .before .before .before .before .before .before .before .before .before .before .before .before .before .before)), omega arith)
+put-key-requires-2 c κs = let h = c .before .before .before .before in (omega (arith, hooks h), omega arith)
 
 returns : tie.Need-returns
 unfolding beginlayout roomcount trackcount obstaclecount doorhookcount donelayout
 returns c =
-    let g = c .before .before .before .before .before .before .before .before .before .before .before .before .before .before .before .before .before .before .before .before .before .before .before .before .before .before .before .before .before .before .before .before .before .before .before .before .before in
-    form-wrote (g .args .s .now) (g .args .r) (sized g) (g .pre .0) (g .args .i) (g .args .name .now) (c .before .before .before .before .before .before .before .before .before .before .before .before .before .before .before .before .before .before .before .before .before .before .before .before .before .before .before .before .before .before .put-key .ensures) (c .before .before .before .before .before .before .before .before .before .before .before .before .before .before .before .before .before .before .before .before .before .before .before .before .put-section .ensures .0) (c .before .before .before .before .before .before .before .before .before .before .before .before .before .before .before .before .before .before .put-section2 .ensures .0) (c .before .before .before .before .before .before .before .before .before .before .before .before .put-section3 .ensures .0) (c .before .before .before .before .before .before .before .put-head .ensures) (c .before .before .put-key2 .ensures)
+    let d = c .before .before in
+    let h = d .before .before .before .before .before in
+    let o = obstacles-of h in
+    let t = tracks-of o in
+    let r = rooms-of t in
+    let k = key-of r in
+    let g = start-of k in
+    form-wrote (g .args .s .now) (g .args .r) (sized g) (g .pre .0) (g .args .i) (g .args .name .now)
+    (k .put-key .ensures) (r .put-section .ensures .0) (t .put-section2 .ensures .0) (o .put-section3 .ensures .0) (h .put-head .ensures) (d .put-key2 .ensures)
 
 same-length : tie.Need-same-length
 same-length c = wrote-long (returns c)
@@ -88,20 +107,24 @@ pub put-form-spec : {M : Type 1} → statement M
 put-form-spec =
     tie.close
     (tie.spec
-    slice-aggregate-put-key
+    (λ c. refl)
     put-key-requires
-    slice-aggregate-put-section
+    (λ c. refl)
     slice-aggregate-put-section-2
     put-section-requires
-    slice-aggregate-put-section-3
-    slice-aggregate-put-section-4
+    (λ c. refl)
+    (λ c. omega arith)
+    (search needs)
+    part-put-section-end
     put-section-requires-2
-    slice-aggregate-put-section-5
-    slice-aggregate-put-section-6
+    (λ c. refl)
+    (λ c. omega arith)
+    (search needs)
+    part-put-section-end-2
     put-section-requires-3
-    slice-aggregate-put-head
+    (λ c. refl)
     put-head-requires
-    slice-aggregate-put-key-2
+    (λ c. refl)
     put-key-requires-2
     same-length
     returns)

@@ -8,11 +8,18 @@ use Rattle.layoutform.proofs.print.put_head.Tie as tie
 
 put-byte-requires-2 : tie.Need-put-byte-requires-2
 put-byte-requires-2 c κs =
-    let g = c .before .before .before .before .before .before .before .before .before .before .before .before .before .before .before in
-    omega (arith, c .before .before .before .put-plain .ensures .next, c .before .before .before .before .before .before .before .put-byte .ensures .next, c .before .before .before .before .before .before .before .before .before .before .before .put-word .ensures .next, plain-short (g .args .n), g .pre)
+    let at-put-plain = c .before .before .before in
+    let at-put-byte = at-put-plain .before .before .before .before in
+    let at-put-word = at-put-byte .before .before .before .before in
+    let g = at-put-word .before .before .before .before in
+    omega (arith, at-put-plain .put-plain .ensures .next, at-put-byte .put-byte .ensures .next, at-put-word .put-word .ensures .next, plain-short (g .args .n), g .pre)
 
 returns : tie.Need-returns
-returns c = wrote-is _ (wrote-then (c .before .before .before .before .before .before .before .before .before .before .before .before .before .before .put-word .ensures) (wrote-then (c .before .before .before .before .before .before .before .before .before .before .put-byte .ensures) (wrote-then (c .before .before .before .before .before .before .put-plain .ensures) (c .before .before .put-byte2 .ensures)))) (head-bytes _ _)
+returns c =
+    let at-put-plain = c .before .before .before .before .before .before in
+    let at-put-byte = at-put-plain .before .before .before .before in
+    let at-put-word = at-put-byte .before .before .before .before in
+    wrote-is _ (wrote-then (at-put-word .put-word .ensures) (wrote-then (at-put-byte .put-byte .ensures) (wrote-then (at-put-plain .put-plain .ensures) (c .before .before .put-byte2 .ensures)))) (head-bytes _ _)
 
 pub put-head-spec : {M : Type 1} → statement M
 put-head-spec =

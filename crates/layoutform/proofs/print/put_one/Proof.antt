@@ -10,8 +10,9 @@ use Rattle.layoutform.proofs.print.put_one.Tie as tie
 
 returns : tie.Need-returns
 returns c =
-    let g = c .before .before .before .before .before .before .before .before in
-    named-other _ (g .args .name .now) [] (g .args .l .now) (c .before .before .before .before .if1 .taken) (c .before .before .put-entry .ensures)
+    let at-if1 = c .before .before .before .before in
+    let g = at-if1 .before .before .before .before in
+    named-other _ (g .args .name .now) [] (g .args .l .now) (at-if1 .if1 .taken) (c .before .before .put-entry .ensures)
 
 put-entry-requires-2 : tie.Need-put-entry-requires-2
 put-entry-requires-2 c κs =
@@ -20,8 +21,10 @@ put-entry-requires-2 c κs =
 
 returns-2 : tie.Need-returns-2
 returns-2 c =
-    let g = c .before .before .before .before .before .before .before .before .before in
-    named-own _ (g .args .name .now) _ (g .args .l .now) (c .before .before .before .before .before .if1 .left) (c .before .before .before .word .ensures) (c .before .before .put-entry2 .ensures)
+    let at-word = c .before .before .before in
+    let at-if1 = at-word .before .before in
+    let g = at-if1 .before .before .before .before in
+    named-own _ (g .args .name .now) _ (g .args .l .now) (at-if1 .if1 .left) (at-word .word .ensures) (c .before .before .put-entry2 .ensures)
 
 pub put-one-spec : {M : Type 1} → statement M
 put-one-spec =

@@ -26,8 +26,9 @@ same-length c = search needs
 
 returns : tie.Need-returns
 returns c =
-    let g = c .before .before .before .before .before .before .before .before .before in
-    too-short _ (g .args .out .now) _ _ (c .before .before .before .before .put-form .ensures) (c .before .if1 .taken) _ (c .refused-form .ensures)
+    let at-put-form = c .before .before .before .before in
+    let g = at-put-form .before .before .before .before .before in
+    too-short _ (g .args .out .now) _ _ (at-put-form .put-form .ensures) (c .before .if1 .taken) _ (c .refused-form .ensures)
 
 put-form-requires-2 : tie.Need-put-form-requires-2
 put-form-requires-2 c κs = search needs
@@ -45,9 +46,11 @@ written c = c .put-form2 .ensures
 
 returns-2 : tie.Need-returns-2
 returns-2 c =
-    let g = c .before .before .before .before .before .before .before .before .before .before .before .before in
-    let dry = c .before .before .before .before .before .before .before .put-form .ensures in
-    long-enough _ (g .args .out .now) _ _ dry _ _ (omega (arith, dry .next, g .pre .1)) (c .before .before .before .before .if1 .left) (written (c .before .before))
+    let at-if1 = c .before .before .before .before in
+    let at-put-form = at-if1 .before .before .before in
+    let g = at-put-form .before .before .before .before .before in
+    let dry = at-put-form .put-form .ensures in
+    long-enough _ (g .args .out .now) _ _ dry _ _ (omega (arith, dry .next, g .pre .1)) (at-if1 .if1 .left) (written (c .before .before))
 
 pub write-form-spec : {M : Type 1} → statement M
 write-form-spec =

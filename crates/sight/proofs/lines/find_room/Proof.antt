@@ -27,12 +27,14 @@ room-name-requires c κs = search needs
 same-name-requires : tie.Need-same-name-requires Inv-loop μ-loop
 same-name-requires c κs =
     let g = c .before .before .before .before .before .before in
-    (g .pre .1 .0, ap isName (c .room-name .ensures) ∙ kept-good _ _ _ (g .pre .0) (g .pre .1 .1) _ (c .before .loop-test .taken))
+    (g .pre .1, ap isName (c .room-name .ensures) ∙ kept-good _ _ _ (g .pre .0) _ (c .before .loop-test .taken))
 
 returns : tie.Need-returns Inv-loop μ-loop
 returns c =
-    let g = c .before .before .before .before .before .before .before .before in
-    find-hit _ _ _ (g .pre .0) _ _ (c .before .before .before .loop-test .taken) (c .before .before .before .before .loop .inv .1) (find-turn _ _ _ (g .pre .0) _ _ _ _ true (c .before .before .before .loop-test .taken) (c .before .before .room-name .ensures) (c .before .same-name .ensures) (c .if1 .taken))
+    let in-loop = c .before .before .before in
+    let at-loop = in-loop .before in
+    let g = at-loop .before .before .before .before in
+    find-hit _ _ _ (g .pre .0) _ _ (in-loop .loop-test .taken) (at-loop .loop .inv .1) (find-turn _ _ _ (g .pre .0) _ _ _ _ true (in-loop .loop-test .taken) (c .before .before .room-name .ensures) (c .before .same-name .ensures) (c .if1 .taken))
 
 add-j : tie.Need-add-j Inv-loop μ-loop
 add-j c = search needs
@@ -42,8 +44,10 @@ loop-less c = search needs
 
 loop-again : tie.Need-loop-again Inv-loop μ-loop
 loop-again c =
-    let g = c .before .before .before .before .before .before .before .before in
-    (omega (arith, c .before .before .before .loop-test .taken), lowest-more _ _ (c .before .before .before .before .loop .inv .1) (find-turn _ _ _ (g .pre .0) _ _ _ _ false (c .before .before .before .loop-test .taken) (c .before .before .room-name .ensures) (c .before .same-name .ensures) (c .if1 .left)))
+    let in-loop = c .before .before .before in
+    let at-loop = in-loop .before in
+    let g = at-loop .before .before .before .before in
+    (omega (arith, in-loop .loop-test .taken), lowest-more _ _ (at-loop .loop .inv .1) (find-turn _ _ _ (g .pre .0) _ _ _ _ false (in-loop .loop-test .taken) (c .before .before .room-name .ensures) (c .before .same-name .ensures) (c .if1 .left)))
 
 returns-2 : tie.Need-returns-2 Inv-loop μ-loop
 returns-2 c = let g = c .before .before .before .before .before in find-none _ _ _ (g .pre .0) _ _ (c .loop-test .left) (c .before .loop .inv .1)

@@ -29,7 +29,14 @@ room-fault-requires : tie.Need-room-fault-requires
 room-fault-requires c κs = search needs
 
 returns-2 : tie.Need-returns-2
-returns-2 c = c .room-fault .ensures ∙ observer-room _ _ _ _ (sym (c .before .before .before .before .before .before .before .before .word-count .ensures) ∙ c .before .before .before .before .before .before .before .if1 .left) (ap isName (sym (c .before .before .before .before .before .before .word .ensures)) ∙ sym (c .before .before .before .before .before .is-name .ensures) ∙ c .before .before .before .before .if2 .taken) (ap isCount (sym (c .before .before .before .word2 .ensures)) ∙ sym (c .before .before .is-count .ensures) ∙ c .before .if3 .taken)
+returns-2 c =
+    let at-word2 = c .before .before .before in
+    let at-if2 = at-word2 .before in
+    let at-is-name = at-if2 .before in
+    let at-word = at-is-name .before in
+    let at-if1 = at-word .before in
+    let at-word-count = at-if1 .before in
+    c .room-fault .ensures ∙ observer-room _ _ _ _ (sym (at-word-count .word-count .ensures) ∙ at-if1 .if1 .left) (ap isName (sym (at-word .word .ensures)) ∙ sym (at-is-name .is-name .ensures) ∙ at-if2 .if2 .taken) (ap isCount (sym (at-word2 .word2 .ensures)) ∙ sym (c .before .before .is-count .ensures) ∙ c .before .if3 .taken)
 
 returns-3 : tie.Need-returns-3
 returns-3 c = observer-36 _ _ _ _ (sym (c .before .before .before .before .before .before .before .word-count .ensures) ∙ c .before .before .before .before .before .before .if1 .left) (ap isName (sym (c .before .before .before .before .before .word .ensures)) ∙ sym (c .before .before .before .before .is-name .ensures) ∙ c .before .before .before .if2 .taken) (ap isCount (sym (c .before .before .word2 .ensures)) ∙ sym (c .before .is-count .ensures) ∙ c .if3 .left)

@@ -9,13 +9,13 @@ is-name-requires : tie.Need-is-name-requires
 is-name-requires c κs = search needs
 
 find-room-requires : tie.Need-find-room-requires
-find-room-requires c κs = let g = c .before .before .before .before .before in (g .pre .0, (sym (c .before .is-name .ensures) ∙ c .if1 .taken, g .pre .1))
+find-room-requires c κs = let g = c .before .before .before .before .before in (g .pre, sym (c .before .is-name .ensures) ∙ c .if1 .taken)
 
 returns : tie.Need-returns
 returns c = c .find-room .ensures
 
 returns-2 : tie.Need-returns-2
-returns-2 c = let g = c .before .before .before .before .before in no-name-no-room _ _ _ (g .pre .0) (g .pre .1) _ (sym (c .before .is-name .ensures) ∙ c .if1 .left)
+returns-2 c = let g = c .before .before .before .before .before in no-name-no-room _ _ _ (g .pre) _ (sym (c .before .is-name .ensures) ∙ c .if1 .left)
 
 pub room-of-spec : {M : Type 1} → statement M
 room-of-spec = tie.close (tie.spec is-name-requires find-room-requires returns returns-2)

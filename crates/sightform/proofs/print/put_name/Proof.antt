@@ -21,7 +21,9 @@ room-name-requires : tie.Need-room-name-requires
 room-name-requires c κs = search needs
 
 put-lowered-requires-2 : tie.Need-put-lowered-requires-2
-put-lowered-requires-2 c κs = omega (arith, ap length (c .room-name .ensures), c .before .before .before .before .before .before .before .pre .0, c .before .before .before .before .before .before .before .pre .1 .1)
+put-lowered-requires-2 c κs =
+    let start = c .before .before .before .before .before .before .before in
+    omega (arith, ap length (c .room-name .ensures), start .pre .0, start .pre .1 .1)
 
 same-length-2 : tie.Need-same-length-2
 same-length-2 c = search needs

@@ -20,7 +20,10 @@ same-length : tie.Need-same-length
 same-length c = search needs
 
 returns : tie.Need-returns
-returns c = too-long _ (c .before .before .before .before .before .before .before .before .before .before .before .args .out .now) _ _ (c .before .before .before .before .put-form .ensures) (c .before .if1 .taken) _ (c .refused-form .ensures)
+returns c =
+    let at-put-form = c .before .before .before .before in
+    let start = at-put-form .before .before .before .before .before .before .before in
+    too-long _ (start .args .out .now) _ _ (at-put-form .put-form .ensures) (c .before .if1 .taken) _ (c .refused-form .ensures)
 
 refused-form-requires-2 : tie.Need-refused-form-requires-2
 refused-form-requires-2 c κs = search needs
@@ -29,7 +32,10 @@ same-length-2 : tie.Need-same-length-2
 same-length-2 c = search needs
 
 returns-2 : tie.Need-returns-2
-returns-2 c = too-short _ (c .before .before .before .before .before .before .before .before .before .before .before .before .args .out .now) _ _ (c .before .before .before .before .before .put-form .ensures) (c .before .if2 .taken) _ (c .refused-form2 .ensures)
+returns-2 c =
+    let at-put-form = c .before .before .before .before .before in
+    let start = at-put-form .before .before .before .before .before .before .before in
+    too-short _ (start .args .out .now) _ _ (at-put-form .put-form .ensures) (c .before .if2 .taken) _ (c .refused-form2 .ensures)
 
 put-form-requires-2 : tie.Need-put-form-requires-2
 put-form-requires-2 c κs = search needs
@@ -41,7 +47,12 @@ same-length-3 : tie.Need-same-length-3
 same-length-3 c = search needs
 
 returns-3 : tie.Need-returns-3
-returns-3 c = long-enough _ (c .before .before .before .before .before .before .before .before .before .before .before .before .before .before .before .args .out .now) _ _ (c .before .before .before .before .before .before .before .before .put-form .ensures) _ _ (c .before .before .before .before .before .if1 .left) (c .before .before .before .before .if2 .left) (c .before .before .put-form2 .ensures)
+returns-3 c =
+    let at-if2 = c .before .before .before .before in
+    let at-if1 = at-if2 .before in
+    let at-put-form = at-if1 .before .before .before in
+    let start = at-put-form .before .before .before .before .before .before .before in
+    long-enough _ (start .args .out .now) _ _ (at-put-form .put-form .ensures) _ _ (at-if1 .if1 .left) (at-if2 .if2 .left) (c .before .before .put-form2 .ensures)
 
 pub write-form-spec : {M : Type 1} → statement M
 write-form-spec =
