@@ -14,7 +14,7 @@ ghost use Rattle.border.specs.Memory.{marksOf, wrongBy, unmarked};
 
 // The number of edge entries.
 fn edges_of(bytes: &[u8]) -> usize
-    requires { ⌜ RightHeader (now bytes) × (136 ≤ length (now bytes)) ⌝ }
+    requires { ⌜ RightHeader (now bytes) ⌝ }
     ensures { λ r. ⌜ (r ≡ (partsOf (now (bytes .entry)) .edges)) × (r ≤ 12288) ⌝ }
 {
     tables::count_of(bytes, 7)
@@ -22,7 +22,7 @@ fn edges_of(bytes: &[u8]) -> usize
 
 // The number of perimeter entries.
 fn loops_of(bytes: &[u8]) -> usize
-    requires { ⌜ RightHeader (now bytes) × (136 ≤ length (now bytes)) ⌝ }
+    requires { ⌜ RightHeader (now bytes) ⌝ }
     ensures { λ r. ⌜ (r ≡ (partsOf (now (bytes .entry)) .perimeters)) × (r ≤ 12288) ⌝ }
 {
     tables::count_of(bytes, 8)
@@ -30,7 +30,7 @@ fn loops_of(bytes: &[u8]) -> usize
 
 // The half-edge of edge entry i.
 fn edge_of(bytes: &[u8], i: usize) -> usize
-    requires { ⌜ RightHeader (now bytes) × (136 ≤ length (now bytes)) × (i < (partsOf (now bytes) .edges)) ⌝ }
+    requires { ⌜ RightHeader (now bytes) × (i < (partsOf (now bytes) .edges)) ⌝ }
     ensures { λ r. ⌜ r ≡ edgeOf (partsOf (now (bytes .entry))) i ⌝ }
 {
     tables::word_of(bytes, 7, i, 0) as usize
@@ -38,7 +38,7 @@ fn edge_of(bytes: &[u8], i: usize) -> usize
 
 // The transition of edge entry i.
 fn transition_of(bytes: &[u8], i: usize) -> u32
-    requires { ⌜ RightHeader (now bytes) × (136 ≤ length (now bytes)) × (i < (partsOf (now bytes) .edges)) ⌝ }
+    requires { ⌜ RightHeader (now bytes) × (i < (partsOf (now bytes) .edges)) ⌝ }
     ensures { λ r. ⌜ r ≡ transition (partsOf (now (bytes .entry))) i ⌝ }
 {
     tables::word_of(bytes, 7, i, 1)
@@ -46,7 +46,7 @@ fn transition_of(bytes: &[u8], i: usize) -> u32
 
 // Perimeter entry j: the end of loop j.
 fn loop_end(bytes: &[u8], j: usize) -> usize
-    requires { ⌜ RightHeader (now bytes) × (136 ≤ length (now bytes)) × (j < (partsOf (now bytes) .perimeters)) ⌝ }
+    requires { ⌜ RightHeader (now bytes) × (j < (partsOf (now bytes) .perimeters)) ⌝ }
     ensures { λ r. ⌜ r ≡ loopEnd (partsOf (now (bytes .entry))) j ⌝ }
 {
     tables::word_of(bytes, 8, j, 0) as usize
@@ -54,7 +54,7 @@ fn loop_end(bytes: &[u8], j: usize) -> usize
 
 // The start of loop j: the end before it.
 fn loop_start(bytes: &[u8], j: usize) -> usize
-    requires { ⌜ RightHeader (now bytes) × (136 ≤ length (now bytes)) × (j ≤ (partsOf (now bytes) .perimeters)) ⌝ }
+    requires { ⌜ RightHeader (now bytes) × (j ≤ (partsOf (now bytes) .perimeters)) ⌝ }
     ensures { λ r. ⌜ r ≡ loopStart (partsOf (now (bytes .entry))) j ⌝ }
 {
     if j == 0 {
@@ -65,7 +65,7 @@ fn loop_start(bytes: &[u8], j: usize) -> usize
 
 // Whether edge entry i is no border, or is marked already.
 fn wrong_by(bytes: &[u8], work: &[u8], i: usize) -> bool
-    requires { ⌜ RightHeader (now bytes) × (136 ≤ length (now bytes)) × RightPairs (partsOf (now bytes)) ⌝ }
+    requires { ⌜ RightHeader (now bytes) × RightPairs (partsOf (now bytes)) ⌝ }
     requires marks { ⌜ (workSize ≤ length (now work)) × (i < (partsOf (now bytes) .edges)) ⌝ }
     ensures { λ r. ⌜ r ≡ wrongBy (partsOf (now (bytes .entry))) (now (work .entry)) i ⌝ }
 {
@@ -78,7 +78,7 @@ fn wrong_by(bytes: &[u8], work: &[u8], i: usize) -> bool
 
 // Marks the borders of the edge entries in clear memory, up to the first wrong one.
 fn mark_edges(bytes: &[u8], work: &mut [u8]) -> usize
-    requires { ⌜ RightHeader (now bytes) × (136 ≤ length (now bytes)) × RightPairs (partsOf (now bytes)) ⌝ }
+    requires { ⌜ RightHeader (now bytes) × RightPairs (partsOf (now bytes)) ⌝ }
     requires memory { ⌜ workSize ≤ length (now work) ⌝ }
     ensures answer { λ r. ⌜ r ≡ lowest (partsOf (now (bytes .entry)) .edges) (wrongEdge (partsOf (now (bytes .entry)))) ⌝ }
     ensures marks { λ r. ⌜ now (work .exit) ≡ marksOf (partsOf (now (bytes .entry))) r (clearedTo workSize (now (work .entry))) ⌝ }
@@ -99,7 +99,7 @@ fn mark_edges(bytes: &[u8], work: &mut [u8]) -> usize
 
 // Whether half-edge h is a border without a mark.
 fn is_unmarked(bytes: &[u8], work: &[u8], h: usize) -> bool
-    requires { ⌜ RightHeader (now bytes) × (136 ≤ length (now bytes)) × RightPairs (partsOf (now bytes)) ⌝ }
+    requires { ⌜ RightHeader (now bytes) × RightPairs (partsOf (now bytes)) ⌝ }
     requires marks { ⌜ (workSize ≤ length (now work)) × (h < halves (partsOf (now bytes))) ⌝ }
     ensures { λ r. ⌜ r ≡ unmarked (partsOf (now (bytes .entry))) (now (work .entry)) h ⌝ }
 {
@@ -110,7 +110,7 @@ fn is_unmarked(bytes: &[u8], work: &[u8], h: usize) -> bool
 }
 
 fn first_unmarked(bytes: &[u8], work: &[u8]) -> usize
-    requires { ⌜ RightHeader (now bytes) × (136 ≤ length (now bytes)) × RightPairs (partsOf (now bytes)) ⌝ }
+    requires { ⌜ RightHeader (now bytes) × RightPairs (partsOf (now bytes)) ⌝ }
     requires marks { ⌜ workSize ≤ length (now work) ⌝ }
     ensures { λ r. ⌜ r ≡ lowest (halves (partsOf (now (bytes .entry)))) (unmarked (partsOf (now (bytes .entry))) (now (work .entry))) ⌝ }
 {
@@ -127,7 +127,7 @@ fn first_unmarked(bytes: &[u8], work: &[u8]) -> usize
 
 // 17, with the marks left in the memory.
 fn edges_found(bytes: &[u8], work: &mut [u8]) -> Answer
-    requires { ⌜ RightHeader (now bytes) × (136 ≤ length (now bytes)) × RightPairs (partsOf (now bytes)) ⌝ }
+    requires { ⌜ RightHeader (now bytes) × RightPairs (partsOf (now bytes)) ⌝ }
     requires memory { ⌜ workSize ≤ length (now work) ⌝ }
     ensures answer { λ r. ⌜ r ≡ rule17 (partsOf (now (bytes .entry))) ⌝ }
     ensures rest { λ _. ⌜ clearedTo workSize (now (work .exit)) ≡ clearedTo workSize (now (work .entry)) ⌝ }
@@ -142,7 +142,7 @@ fn edges_found(bytes: &[u8], work: &mut [u8]) -> Answer
 
 // 17
 fn edges_verdict(bytes: &[u8], work: &mut [u8]) -> Answer
-    requires { ⌜ RightHeader (now bytes) × (136 ≤ length (now bytes)) × RightPairs (partsOf (now bytes)) ⌝ }
+    requires { ⌜ RightHeader (now bytes) × RightPairs (partsOf (now bytes)) ⌝ }
     requires memory { ⌜ workSize ≤ length (now work) ⌝ }
     ensures answer { λ r. ⌜ r ≡ rule17 (partsOf (now (bytes .entry))) ⌝ }
     ensures memory { λ _. ⌜ now (work .exit) ≡ clearedTo workSize (now (work .entry)) ⌝ }
@@ -154,7 +154,7 @@ fn edges_verdict(bytes: &[u8], work: &mut [u8]) -> Answer
 
 // Whether the transition of edge entry i is not -1 to 63.
 fn wrong_transition(bytes: &[u8], i: usize) -> bool
-    requires { ⌜ RightHeader (now bytes) × (136 ≤ length (now bytes)) × (i < (partsOf (now bytes) .edges)) ⌝ }
+    requires { ⌜ RightHeader (now bytes) × (i < (partsOf (now bytes) .edges)) ⌝ }
     ensures { λ r. ⌜ r ≡ wrongTransition (partsOf (now (bytes .entry))) i ⌝ }
 {
     let t = transition_of(bytes, i);
@@ -165,7 +165,7 @@ fn wrong_transition(bytes: &[u8], i: usize) -> bool
 }
 
 fn first_wrong_transition(bytes: &[u8]) -> usize
-    requires { ⌜ RightHeader (now bytes) × (136 ≤ length (now bytes)) ⌝ }
+    requires { ⌜ RightHeader (now bytes) ⌝ }
     ensures { λ r. ⌜ r ≡ lowest (partsOf (now (bytes .entry)) .edges) (wrongTransition (partsOf (now (bytes .entry)))) ⌝ }
 {
     let count = edges_of(bytes);
@@ -192,7 +192,7 @@ fn after_of(s: usize, t: usize, i: usize) -> usize
 
 // Whether edge i does not end where the next starts.
 fn open_at(bytes: &[u8], s: usize, t: usize, i: usize) -> bool
-    requires { ⌜ RightHeader (now bytes) × (136 ≤ length (now bytes)) × EdgesIn (partsOf (now bytes)) ⌝ }
+    requires { ⌜ RightHeader (now bytes) × EdgesIn (partsOf (now bytes)) ⌝ }
     requires run { ⌜ (s < t) × (i < t) × (t ≤ (partsOf (now bytes) .edges)) ⌝ }
     ensures { λ r. ⌜ r ≡ openAt (partsOf (now (bytes .entry))) s t i ⌝ }
 {
@@ -206,7 +206,7 @@ fn open_at(bytes: &[u8], s: usize, t: usize, i: usize) -> bool
 
 // Whether the run of edges from s up to t isn't a closed chain.
 fn open_run(bytes: &[u8], s: usize, t: usize) -> bool
-    requires { ⌜ RightHeader (now bytes) × (136 ≤ length (now bytes)) × EdgesIn (partsOf (now bytes)) ⌝ }
+    requires { ⌜ RightHeader (now bytes) × EdgesIn (partsOf (now bytes)) ⌝ }
     requires run { ⌜ (s < t) × (t ≤ (partsOf (now bytes) .edges)) ⌝ }
     ensures { λ r. ⌜ r ≡ openRun (partsOf (now (bytes .entry))) s t ⌝ }
 {
@@ -223,7 +223,7 @@ fn open_run(bytes: &[u8], s: usize, t: usize) -> bool
 
 // Whether perimeter entry j is wrong.
 fn wrong_loop(bytes: &[u8], j: usize) -> bool
-    requires { ⌜ RightHeader (now bytes) × (136 ≤ length (now bytes)) × EdgesIn (partsOf (now bytes)) ⌝ }
+    requires { ⌜ RightHeader (now bytes) × EdgesIn (partsOf (now bytes)) ⌝ }
     requires entry { ⌜ j < (partsOf (now bytes) .perimeters) ⌝ }
     ensures { λ r. ⌜ r ≡ wrongLoop (partsOf (now (bytes .entry))) j ⌝ }
 {
@@ -240,7 +240,7 @@ fn wrong_loop(bytes: &[u8], j: usize) -> bool
 }
 
 fn first_wrong_loop(bytes: &[u8]) -> usize
-    requires { ⌜ RightHeader (now bytes) × (136 ≤ length (now bytes)) × EdgesIn (partsOf (now bytes)) ⌝ }
+    requires { ⌜ RightHeader (now bytes) × EdgesIn (partsOf (now bytes)) ⌝ }
     ensures { λ r. ⌜ r ≡ lowest (partsOf (now (bytes .entry)) .perimeters) (wrongLoop (partsOf (now (bytes .entry)))) ⌝ }
 {
     let loops = loops_of(bytes);
@@ -256,7 +256,7 @@ fn first_wrong_loop(bytes: &[u8]) -> usize
 
 // 19
 fn then_loops(so: Answer, bytes: &[u8]) -> Answer
-    requires { ⌜ RightHeader (now bytes) × (136 ≤ length (now bytes)) × EdgesIn (partsOf (now bytes)) ⌝ }
+    requires { ⌜ RightHeader (now bytes) × EdgesIn (partsOf (now bytes)) ⌝ }
     ensures { λ r. ⌜ r ≡ (so then rule19 (partsOf (now (bytes .entry)))) ⌝ }
 {
     let count = edges_of(bytes);
@@ -269,7 +269,7 @@ fn then_loops(so: Answer, bytes: &[u8]) -> Answer
 
 // Rules 17 to 19, where 15 and 16 are unbroken.
 pub fn loops_verdict(bytes: &[u8], work: &mut [u8]) -> Answer
-    requires { ⌜ RightHeader (now bytes) × (136 ≤ length (now bytes)) × (workSize ≤ length (now work)) ⌝ }
+    requires { ⌜ RightHeader (now bytes) × (workSize ≤ length (now work)) ⌝ }
     requires pairs { ⌜ rules15to16 (partsOf (now bytes)) .number ≡ 0 ⌝ }
     ensures answer { λ r. ⌜ r ≡ rules17to19 (partsOf (now (bytes .entry))) ⌝ }
     ensures memory { λ _. ⌜ now (work .exit) ≡ clearedTo workSize (now (work .entry)) ⌝ }

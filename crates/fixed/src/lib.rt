@@ -8,7 +8,7 @@ ghost use Rattle.wire.specs.Bytes.{u32At, put};
 ghost use Rattle.wire.specs.Words.{bytesOf};
 ghost use Rattle.tables.specs.Tables.{tableAt};
 ghost use Rattle.tables.specs.Header.{floorTables, RightHeader};
-ghost use Rattle.tables.specs.Parts.{partsOf, wordsIn};
+ghost use Rattle.tables.specs.Parts.{partsOf, countOf, wordsIn};
 ghost use Rattle.tables.specs.Fixed.{startOf, fieldsOf, formOf};
 ghost use Rattle.fixed.specs.Written.{formUpTo};
 
@@ -26,7 +26,7 @@ fn copy_part(src: &[u8], from: usize, dst: &mut [u8], at: usize, n: usize)
 
 // How many bytes table k has.
 fn table_bytes(bytes: &[u8], k: usize) -> usize
-    requires { ⌜ RightHeader (now bytes) × (136 ≤ length (now bytes)) × (k < 9) ⌝ }
+    requires { ⌜ RightHeader (now bytes) × (k < 9) ⌝ }
     ensures { λ r. ⌜ r ≡ 4 * wordsIn (now (bytes .entry)) k ⌝ }
 {
     let s = tables::span_at(bytes, k);
@@ -35,7 +35,7 @@ fn table_bytes(bytes: &[u8], k: usize) -> usize
 
 // Where table k starts in the fixed form.
 fn start_at(bytes: &[u8], k: usize) -> usize
-    requires { ⌜ RightHeader (now bytes) × (136 ≤ length (now bytes)) × (k ≤ 9) ⌝ }
+    requires { ⌜ RightHeader (now bytes) × (k ≤ 9) ⌝ }
     ensures { λ r. ⌜ (r ≡ startOf (partsOf (now (bytes .entry))) k) × (r ≤ 737372) ⌝ }
 {
     let mut at = 136;
@@ -49,20 +49,29 @@ fn start_at(bytes: &[u8], k: usize) -> usize
 
 // The length of the fixed form.
 pub fn form_length(bytes: &[u8]) -> usize
-    requires { ⌜ RightHeader (now bytes) × (136 ≤ length (now bytes)) ⌝ }
+    requires { ⌜ RightHeader (now bytes) ⌝ }
     ensures { λ r. ⌜ (r ≡ length (formOf (partsOf (now (bytes .entry))))) × (r ≤ 737372) ⌝ }
 {
     start_at(bytes, 9)
 }
 
-// The same as a word.
+// Where table k starts in the fixed form, as a word.
 fn start_word(bytes: &[u8], k: usize) -> u32
-    requires { ⌜ RightHeader (now bytes) × (136 ≤ length (now bytes)) × (k ≤ 9) ⌝ }
+    requires { ⌜ RightHeader (now bytes) × (k ≤ 9) ⌝ }
     ensures { λ r. ⌜ r ≡ startOf (partsOf (now (bytes .entry))) k ⌝ }
 {
     start_at(bytes, k) as u32
 }
 
+// How many entries table k has, as a word.
+fn count_word(bytes: &[u8], k: usize) -> u32
+    requires { ⌜ RightHeader (now bytes) × (k < 9) ⌝ }
+    ensures { λ r. ⌜ r ≡ countOf (partsOf (now (bytes .entry))) k ⌝ }
+{
+    tables::count_of(bytes, k) as u32
+}
+
+// Four words, one after the other.
 fn put_four(out: &mut [u8], at: usize, a: u32, b: u32, c: u32, d: u32)
     requires { ⌜ at + 16 ≤ length (now out) ⌝ }
     ensures { λ _. ⌜ now (out .exit) ≡ put (now (out .entry)) at (bytesOf (a ∷ b ∷ c ∷ d ∷ [])) ⌝ }
@@ -73,15 +82,15 @@ fn put_four(out: &mut [u8], at: usize, a: u32, b: u32, c: u32, d: u32)
     wire::put_u32(out, at + 12, d);
 }
 
-// The counts, the root and the offsets of the fixed form, in four parts.
+// The counts, the root and the offsets of the fixed form, in four parts: the first two.
 fn put_fields(bytes: &[u8], out: &mut [u8])
-    requires { ⌜ RightHeader (now bytes) × (136 ≤ length (now bytes)) × (136 ≤ length (now out)) ⌝ }
+    requires { ⌜ RightHeader (now bytes) × (136 ≤ length (now out)) ⌝ }
     ensures { λ _. ⌜ now (out .exit) ≡ put (put (now (out .entry)) 72 (bytesOf (take 4 (fieldsOf (partsOf (now (bytes .entry))))))) 88 (bytesOf (take 4 (drop 4 (fieldsOf (partsOf (now (bytes .entry))))))) ⌝ }
 {
-    let v = wire::u32_at(bytes, 72);
-    let f = wire::u32_at(bytes, 80);
+    let v = count_word(bytes, 0);
+    let f = count_word(bytes, 1);
     put_four(out, 72, v, start_word(bytes, 0), f, start_word(bytes, 1));
-    let n = wire::u32_at(bytes, 100);
+    let n = count_word(bytes, 5);
     put_four(
         out,
         88,
@@ -92,12 +101,13 @@ fn put_fields(bytes: &[u8], out: &mut [u8])
     );
 }
 
+// The other two parts.
 fn put_more_fields(bytes: &[u8], out: &mut [u8])
-    requires { ⌜ RightHeader (now bytes) × (136 ≤ length (now bytes)) × (136 ≤ length (now out)) ⌝ }
+    requires { ⌜ RightHeader (now bytes) × (136 ≤ length (now out)) ⌝ }
     ensures { λ _. ⌜ now (out .exit) ≡ put (put (now (out .entry)) 104 (bytesOf (take 4 (drop 8 (fieldsOf (partsOf (now (bytes .entry)))))))) 120 (bytesOf (drop 12 (fieldsOf (partsOf (now (bytes .entry)))))) ⌝ }
 {
-    let root = wire::u32_at(bytes, 108);
-    let a = wire::u32_at(bytes, 112);
+    let root = tables::root_of(bytes);
+    let a = count_word(bytes, 6);
     put_four(
         out,
         104,
@@ -106,14 +116,14 @@ fn put_more_fields(bytes: &[u8], out: &mut [u8])
         a,
         start_word(bytes, 6),
     );
-    let e = wire::u32_at(bytes, 120);
-    let p = wire::u32_at(bytes, 128);
+    let e = count_word(bytes, 7);
+    let p = count_word(bytes, 8);
     put_four(out, 120, e, start_word(bytes, 7), p, start_word(bytes, 8));
 }
 
 // Table k, to `at`; where the next one goes.
 fn copy_table(bytes: &[u8], k: usize, out: &mut [u8], at: usize) -> usize
-    requires { ⌜ RightHeader (now bytes) × (136 ≤ length (now bytes)) × (k < 9) × (at + 4 * wordsIn (now bytes) k ≤ length (now out)) ⌝ }
+    requires { ⌜ RightHeader (now bytes) × (k < 9) × (at + 4 * wordsIn (now bytes) k ≤ length (now out)) ⌝ }
     ensures { λ r. ⌜ (r ≡ at + 4 * wordsIn (now (bytes .entry)) k) × (now (out .exit) ≡ put (now (out .entry)) at (take (4 * wordsIn (now (bytes .entry)) k) (drop (u32At (now (bytes .entry)) (tableAt floorTables k .offset)) (now (bytes .entry))))) ⌝ }
 {
     let s = tables::span_at(bytes, k);
@@ -125,7 +135,7 @@ fn copy_table(bytes: &[u8], k: usize, out: &mut [u8], at: usize) -> usize
 
 // The form's header.
 fn write_head(bytes: &[u8], out: &mut [u8])
-    requires { ⌜ RightHeader (now bytes) × (136 ≤ length (now bytes)) × (136 ≤ length (now out)) ⌝ }
+    requires { ⌜ RightHeader (now bytes) × (136 ≤ length (now out)) ⌝ }
     ensures { λ _. ⌜ now (out .exit) ≡ over (formUpTo (partsOf (now (bytes .entry))) 0) (now (out .entry)) ⌝ }
 {
     copy_part(bytes, 0, out, 0, 72);
@@ -135,7 +145,7 @@ fn write_head(bytes: &[u8], out: &mut [u8])
 
 // The fixed form, over the start of out.
 pub fn write_form(bytes: &[u8], out: &mut [u8])
-    requires { ⌜ RightHeader (now bytes) × (136 ≤ length (now bytes)) × (length (formOf (partsOf (now bytes))) ≤ length (now out)) ⌝ }
+    requires { ⌜ RightHeader (now bytes) × (length (formOf (partsOf (now bytes))) ≤ length (now out)) ⌝ }
     ensures { λ _. ⌜ now (out .exit) ≡ over (formOf (partsOf (now (bytes .entry)))) (now (out .entry)) ⌝ }
 {
     write_head(bytes, out);

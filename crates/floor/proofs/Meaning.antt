@@ -11,7 +11,7 @@ use Rattle.verdict.specs.declared.Answer.{Answer}
 use Rattle.verdict.proofs.Verdict.{passed, unbroken, met, then-both}
 use Rattle.tables.specs.Header.{RightHeader}
 use Rattle.tables.specs.Parts.{Parts, partsOf, wordPlace}
-use Rattle.tables.proofs.Right.{header-met, header-sound, sound-header}
+use Rattle.tables.proofs.Right.{header-sound, sound-header}
 use Rattle.tables.proofs.Reading.{sized-of}
 use Rattle.mesh.specs.Mesh.{Meshed}
 use Rattle.mesh.proofs.Plain.{mesh-met, met-mesh}
@@ -60,7 +60,6 @@ all-met b z =
     let shape = shape-met b (h1 .0) (h2 .0) in
     record {
       header = h1 .0;
-      long = header-met b (h1 .0) .long;
       sized = s;
       mesh = shape .mesh;
       nodes = shape .nodes;

@@ -1,9 +1,8 @@
 -- All that acceptance by the reader gives its callers, by name: what the rewriter, the query, the editor and the link check go by.
-use Prim.Native.Nat.{ℕ, _≤_}
+use Prim.Native.Nat.{ℕ}
 use mathlib.Core.Path.{_≡_}
 use mathlib.Core.Bool.{true}
 use mathlib.Core.List.{List}
-use lib.ListN.{length}
 use Rattle.tables.specs.Header.{RightHeader}
 use Rattle.tables.specs.Parts.{partsOf}
 use Rattle.tables.specs.Fixed.{Sized}
@@ -16,7 +15,6 @@ use Rattle.border.specs.Plain.{SoundBorders}
 
 pub record Accepted (b : List ℕ) : Type 0 where
   pub header : RightHeader b
-  pub long : 136 ≤ length b
   pub sized : Sized (partsOf b)
   pub mesh : Meshed (partsOf b)
   pub nodes : SoundNodes (partsOf b)

@@ -27,7 +27,7 @@ pub struct Floor {
 
 // Rules 7 to 12 of a file with a right header.
 fn shape_verdict(bytes: &[u8]) -> Answer
-    requires { ⌜ RightHeader (now bytes) × (136 ≤ length (now bytes)) ⌝ }
+    requires { ⌜ RightHeader (now bytes) ⌝ }
     ensures { λ r. ⌜ r ≡ rules7to12 (wordPlace (now (bytes .entry))) (partsOf (now (bytes .entry))) ⌝ }
 {
     let so = mesh::mesh_verdict(bytes);
@@ -36,7 +36,7 @@ fn shape_verdict(bytes: &[u8]) -> Answer
 
 // Rules 15 to 19.
 fn borders_verdict(bytes: &[u8], work: &mut [u8]) -> Answer
-    requires { ⌜ RightHeader (now bytes) × (136 ≤ length (now bytes)) × (workSize ≤ length (now work)) ⌝ }
+    requires { ⌜ RightHeader (now bytes) × (workSize ≤ length (now work)) ⌝ }
     ensures answer { λ r. ⌜ r ≡ rules15to19 (partsOf (now (bytes .entry))) ⌝ }
     ensures memory { λ _. ⌜ now (work .exit) ≡ clearedTo workSize (now (work .entry)) ⌝ }
 {
@@ -50,7 +50,7 @@ fn borders_verdict(bytes: &[u8], work: &mut [u8]) -> Answer
 // Rules 13 to 19 of a floor whose rules 7 to 12 were accepted.
 fn tree_and_borders(bytes: &[u8], work: &mut [u8]) -> Answer
     requires shaped { ⌜ Finite (partsOf (now bytes)) × Cornered (partsOf (now bytes)) × Closed (partsOf (now bytes)) ⌝ }
-    requires room { ⌜ RightHeader (now bytes) × (136 ≤ length (now bytes)) × (workSize ≤ length (now work)) ⌝ }
+    requires room { ⌜ RightHeader (now bytes) × (workSize ≤ length (now work)) ⌝ }
     ensures answer { λ r. ⌜ r ≡ rules13to19 (partsOf (now (bytes .entry))) ⌝ }
     ensures memory { λ _. ⌜ now (work .exit) ≡ clearedTo workSize (now (work .entry)) ⌝ }
 {
@@ -96,7 +96,7 @@ pub fn read_verdict(bytes: &[u8], work: &mut [u8]) -> Answer
 
 // The answer for an accepted floor.
 fn counted(bytes: &[u8]) -> Floor
-    requires { ⌜ RightHeader (now bytes) × (136 ≤ length (now bytes)) × (walkableFaces (partsOf (now bytes)) ≡ (partsOf (now bytes) .adjacency)) ⌝ }
+    requires { ⌜ RightHeader (now bytes) × (walkableFaces (partsOf (now bytes)) ≡ (partsOf (now bytes) .adjacency)) ⌝ }
     ensures { λ r. ⌜ r ≡ answerOf accepted (partsOf (now (bytes .entry))) ⌝ }
 {
     let faces = tables::count_of(bytes, 1) as u32;

@@ -12,19 +12,16 @@ use Rattle.verdict.specs.declared.Answer.{Answer}
 use Rattle.verdict.specs.Verdict.{refused}
 use Rattle.verdict.proofs.Bools.{decided}
 use Rattle.letters.specs.Class.{isEnd}
-use Rattle.text.specs.Scan.{run, apart, words, lines, lineAt}
+use Rattle.text.specs.Scan.{run, apart, words, lineAt}
 use Rattle.text.specs.Sound.{rules31to32}
-use Rattle.text.proofs.ReadingLaws.{rest, scan-end}
 use Rattle.layout.specs.declared.Progress.{Progress}
 use Rattle.layout.specs.declared.Layout.{Layout}
-use Rattle.layout.specs.Grammar.{nothing, fault, layoutGrammar, readFrom}
+use Rattle.layout.specs.Grammar.{nothing, fault}
 use Rattle.layout.specs.Layout.{grammar, layoutVerdict, layoutOf}
-use Rattle.layout.specs.Starts.{entryAt, trackStarts, obstacleStarts, stateOf, movedTo, kept, startsFrom, noStarts, begun, startsOf, noLayout, layoutRead, Held, Found, Answered}
-use Rattle.layout.proofs.GoodLaws.{Good}
+use Rattle.layout.specs.Starts.{entryAt, trackStarts, obstacleStarts, stateOf, movedTo, kept, noStarts, begun, startsOf, noLayout, layoutRead, Held, Found, Answered}
 use Rattle.layout.proofs.HeldLaws.{held-long}
 use Rattle.layout.proofs.ReadLaws.{verdict-unsound, verdict-sound, layout-sound, layout-refused}
-use Rattle.layout.proofs.StepLaws.{Fits}
-use Rattle.layout.proofs.ScanLaws.{held-nothing, Standing, standing, turn-stops, turn-more, ends-early, ends-right}
+use Rattle.layout.proofs.ScanLaws.{held-nothing, Reader, reader, turn-stops, turn-more, ends-early, ends-right}
 
 -- ---- a text that 31 or 32 refuses
 
@@ -81,13 +78,13 @@ record Reads (s : List ℕ) : Type 0 where
   sized : length (it .starts) ≡ 192
   found : Found s it (grammar s)
 
-ended : (s starts : List ℕ) (c : Progress) (n at : ℕ) → Standing s starts c n at → length s ≤ at → Reads s
+ended : (s starts : List ℕ) (c : Progress) (n at : ℕ) → Reader s starts c n at → length s ≤ at → Reads s
 ended s starts c n at inv h =
     decided (ℕ-discrete (c .sect) 6)
     (λ e. record { it = _; sized = inv .sized; found = ends-right s starts c n at inv h e })
     (λ e. record { it = noLayout 38 n; sized = none-long 38 n; found = ends-early s starts c n at inv h _ e refl })
 
-reads : (k : ℕ) (s starts : List ℕ) (c : Progress) (n at : ℕ) → length s ≤ at + k → Standing s starts c n at → Reads s
+reads : (k : ℕ) (s starts : List ℕ) (c : Progress) (n at : ℕ) → length s ≤ at + k → Reader s starts c n at → Reads s
 reads zero s starts c n at l inv = ended s starts c n at inv (omega arith)
 reads (suc k) s starts c n at l inv =
     let f = fault (stateOf s starts c) (entryAt s at) in
@@ -102,6 +99,6 @@ pub answered : (s : List ℕ) (r : Layout) → r ≡ layoutRead s → Answered s
 answered s r q =
     decided (ℕ-discrete (rules31to32 s .number) 0)
     (λ z.
-    let w = reads (length s) s noStarts begun 0 0 (omega arith) (standing s) in
+    let w = reads (length s) s noStarts begun 0 0 (omega arith) (reader s) in
     rw (q ∙ sym (found-read s z (w .it) (w .found) (w .sized))) (record { verdict = found-verdict s z (w .it) (w .found); held = found-held s z (w .it) (w .found); sized = w .sized }))
     (λ z. rw (q ∙ sym (refused-read s (rules31to32 s) refl z _ refl)) (refused-answered s (rules31to32 s) refl z))

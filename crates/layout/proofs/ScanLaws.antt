@@ -10,21 +10,16 @@ use Rattle.verdict.specs.Verdict.{accepted}
 use Rattle.verdict.proofs.Bools.{test}
 use Rattle.letters.specs.Class.{isEnd}
 use Rattle.text.specs.Scan.{run, apart, words, lines, lineAt}
-use Rattle.text.specs.Written.{wordLines}
-use Rattle.text.proofs.SplitLaws.{line-step, line-none, line-long, piece-within}
-use Rattle.text.proofs.ReadingLaws.{rest, scan-next, scan-stop, scan-end}
+use Rattle.text.proofs.SplitLaws.{line-step, line-none, line-long}
+use Rattle.text.proofs.ReadingLaws.{Standing, standing, stand-next, stand-stop, stand-end}
 use Rattle.layout.specs.declared.Progress.{Progress}
 use Rattle.layout.specs.declared.Layout.{Layout}
-use Rattle.layout.specs.Grammar.{nothing, State, start, Reading, stopped, fault, finish, layoutGrammar, readFrom}
+use Rattle.layout.specs.Grammar.{nothing, State, start, Reading, stopped, fault, finish, layoutGrammar}
 use Rattle.layout.specs.Layout.{grammar}
 use Rattle.layout.specs.Starts.{entryAt, held, stateOf, movedTo, slotOf, kept, startsFrom, noStarts, begun, startsOf, noLayout, KeptEntries, Held, Found}
 use Rattle.layout.proofs.GoodLaws.{Good, good-start, good-next}
 use Rattle.layout.proofs.HeldLaws.{kept-entries}
 use Rattle.layout.proofs.StepLaws.{Fits, step}
-
-scan-start : (s : List ℕ) → grammar s ≡ readFrom 0 start (rest s 0)
-unfolding grammar wordLines
-scan-start s = refl
 
 finish-early : (st : State) (n : ℕ) → (st .sect ≡ 6 → ⊥) → finish st n ≡ stopped 38 n
 unfolding finish
@@ -103,53 +98,46 @@ starts-done s starts c at i h = i ∙ rw (line-none s at h) (unfold startsFrom i
 
 -- ---- the lines from a place on
 
--- the reader stands before the line that starts at a place, behind so many lines: what it keeps stands for a good state, and the lines
--- from there on say what all do, of the grammar and of the starts
-pub record Standing (s starts : List ℕ) (c : Progress) (passed at : ℕ) : Type 0 where
+-- where the reader stands: what is left of the lines, of the grammar and of the starts; and what it keeps stands for a good state
+pub record Reader (s starts : List ℕ) (c : Progress) (passed at : ℕ) : Type 0 where
   pub fits : Fits c
   pub good : Good (stateOf s starts c)
   pub sized : length starts ≡ 192
-  pub fewer : passed ≤ at
-  pub within : at ≤ length s + 1
-  pub same : grammar s ≡ readFrom passed (stateOf s starts c) (rest s at)
+  pub stands : Standing layoutGrammar s (grammar s) (stateOf s starts c) passed at
   pub begun : startsOf s ≡ startsFrom starts c at (lines (drop at s))
 
 -- before the first line
-pub standing : (s : List ℕ) → Standing s noStarts begun 0 0
-standing s = record {
+pub reader : (s : List ℕ) → Reader s noStarts begun 0 0
+unfolding grammar
+reader s = record {
   fits = (omega arith, (omega arith, omega arith));
   good = rw (start-state s noStarts) good-start;
   sized = length-replicate {A = ℕ} 192 0;
-  fewer = omega arith;
-  within = omega arith;
-  same = rw (start-state s noStarts) (scan-start s);
+  stands = rw (start-state s noStarts) (standing layoutGrammar s start);
   begun = starts-begun s;
 }
 
 -- a turn of the reader, at the values that the code has in hand
-module _ (s starts : List ℕ) (c : Progress) (n at f : ℕ) (inv : Standing s starts c n at) (h : at < length s) (ef : f ≡ fault (stateOf s starts c) (entryAt s at)) where
+module _ (s starts : List ℕ) (c : Progress) (n at f : ℕ) (inv : Reader s starts c n at) (h : at < length s) (ef : f ≡ fault (stateOf s starts c) (entryAt s at)) where
   pub turn-stops : (r : Layout) → (f ≡ 0 → ⊥) → r ≡ noLayout f (n + 1) → Found s r (grammar s)
-  turn-stops r z q = found-stopped s r (grammar s) f (n + 1) (inv .same ∙ scan-stop layoutGrammar s n at (stateOf s starts c) h (λ y. z (ef ∙ y)) ∙ rw (← ef)) z q
+  turn-stops r z q = found-stopped s r (grammar s) f (n + 1) (stand-stop (inv .stands) h (λ y. z (ef ∙ y)) ∙ rw (← ef)) z q
 
-  pub turn-more : (more l : List ℕ) (d : Progress) (e : ℕ) → f ≡ 0 → more ≡ kept starts c at → l ≡ lineAt s at → d ≡ movedTo c (words l) → e ≡ at + run (apart isEnd) (drop at s) → Standing s more d (n + 1) (e + 1)
+  pub turn-more : (more l : List ℕ) (d : Progress) (e : ℕ) → f ≡ 0 → more ≡ kept starts c at → l ≡ lineAt s at → d ≡ movedTo c (words l) → e ≡ at + run (apart isEnd) (drop at s) → Reader s more d (n + 1) (e + 1)
   turn-more more l d e z hm hl hd he =
       let y : fault (stateOf s starts c) (entryAt s at) ≡ 0 = sym ef ∙ z in
       let (same, fit) = step s starts c at (inv .sized) (inv .fits) (inv .good) y in
-      let ends = piece-within isEnd s at e he (omega arith) in
       rw (hd, hl, hm) (record {
         fits = fit;
         good = rw same (good-next (stateOf s starts c) (entryAt s at) (inv .good) y);
         sized = kept-long starts c at ∙ inv .sized;
-        fewer = omega (arith, inv .fewer, ends);
-        within = omega (arith, ends);
-        same = rw same (inv .same ∙ scan-next layoutGrammar s n at e (stateOf s starts c) he h y);
+        stands = rw same (stand-next (inv .stands) he h y);
         begun = starts-more s starts c at e (inv .begun) h he;
       })
 
 -- no line is left
-module _ (s starts : List ℕ) (c : Progress) (n at : ℕ) (inv : Standing s starts c n at) (h : length s ≤ at) where
+module _ (s starts : List ℕ) (c : Progress) (n at : ℕ) (inv : Reader s starts c n at) (h : length s ≤ at) where
   over : grammar s ≡ finish (stateOf s starts c) n
-  over = inv .same ∙ scan-end layoutGrammar s n at (stateOf s starts c) h
+  over = stand-end (inv .stands) h
 
   pub ends-early : (r : Layout) → (c .sect ≡ 6 → ⊥) → r ≡ noLayout 38 n → Found s r (grammar s)
   ends-early r z q = found-stopped s r (grammar s) 38 n (over ∙ finish-early (stateOf s starts c) n (not-done s starts c z)) (λ y. omega arith) q
@@ -159,6 +147,6 @@ module _ (s starts : List ℕ) (c : Progress) (n at : ℕ) (inv : Standing s sta
       found-right s starts c _ (grammar s) (over ∙ finish-right (stateOf s starts c) n (done s starts c z)) (starts-done s starts c at (inv .begun) h) (inv .fits) refl refl refl refl refl refl
 
 -- the rooms so far are kept
-pub kept-rooms : (s starts : List ℕ) (c : Progress) (n at : ℕ) → Standing s starts c n at → KeptEntries s starts (c .rooms)
+pub kept-rooms : (s starts : List ℕ) (c : Progress) (n at : ℕ) → Reader s starts c n at → KeptEntries s starts (c .rooms)
 unfolding stateOf
 kept-rooms s starts c n at inv = kept-entries s starts (c .rooms) (inv .fits .0) (omega (arith, inv .fits, inv .sized)) (inv .good .rooms)

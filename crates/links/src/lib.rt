@@ -1,7 +1,7 @@
 // The link check: whether every transition of a floor leads to a room of a layout.
 use verdict::Answer;
 ghost use mathlib.Core.Path.{_≡_};
-ghost use Prim.Native.Nat.{_<_, _≤_};
+ghost use Prim.Native.Nat.{_<_};
 ghost use lib.ListN.{length};
 ghost use Rattle.verdict.specs.Lowest.{lowest};
 ghost use Rattle.tables.specs.Header.{RightHeader};
@@ -37,7 +37,7 @@ fn first_astray(bytes: &[u8], rooms: u32, n: usize) -> usize
 
 // Rule 42 of a floor with a right header.
 fn rooms_verdict(bytes: &[u8], rooms: u32) -> Answer
-    requires { ⌜ RightHeader (now bytes) × (136 ≤ length (now bytes)) ⌝ }
+    requires { ⌜ RightHeader (now bytes) ⌝ }
     ensures { λ r. ⌜ r ≡ rule42 (partsOf (now (bytes .entry))) rooms ⌝ }
 {
     let n = tables::count_of(bytes, 7);

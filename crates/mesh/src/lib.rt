@@ -2,7 +2,6 @@
 use verdict::Answer;
 ghost use mathlib.Core.Path.{_≡_};
 ghost use Prim.Native.Nat.{_*_, _<_, _≤_};
-ghost use lib.ListN.{length};
 ghost use Rattle.verdict.specs.Lowest.{lowest};
 ghost use Rattle.verdict.specs.Verdict.{_then_};
 ghost use Rattle.tables.specs.Tables.{tableAt, width};
@@ -46,7 +45,7 @@ fn is_wild(bits: u32) -> bool
 }
 
 fn is_wild_head(bytes: &[u8], i: usize) -> bool
-    requires { ⌜ (136 ≤ length (now bytes)) × (i < 15) ⌝ }
+    requires { ⌜ RightHeader (now bytes) × (i < 15) ⌝ }
     ensures { λ r. ⌜ r ≡ wildHead (partsOf (now (bytes .entry))) i ⌝ }
 {
     is_wild(tables::float_word(bytes, i))
@@ -54,7 +53,7 @@ fn is_wild_head(bytes: &[u8], i: usize) -> bool
 
 // The first of the header's floats that is wild, or 15.
 fn first_wild_head(bytes: &[u8]) -> usize
-    requires { ⌜ 136 ≤ length (now bytes) ⌝ }
+    requires { ⌜ RightHeader (now bytes) ⌝ }
     ensures { λ r. ⌜ (r ≡ lowest 15 (wildHead (partsOf (now (bytes .entry))))) × (r ≤ 15) ⌝ }
 {
     let mut i = 0;
@@ -91,7 +90,7 @@ fn first_wild(bytes: &[u8], k: usize, per: usize, n: usize) -> usize
 
 // 7, of one table.
 fn then_wild(so: Answer, bytes: &[u8], k: usize, per: usize) -> Answer
-    requires { ⌜ RightHeader (now bytes) × (136 ≤ length (now bytes)) × (k < 9) × (0 < per) × (per ≤ 6) × (per ≤ width (tableAt floorTables k)) ⌝ }
+    requires { ⌜ RightHeader (now bytes) × (k < 9) × (0 < per) × (per ≤ 6) × (per ≤ width (tableAt floorTables k)) ⌝ }
     ensures { λ r. ⌜ r ≡ (so then rule7In (wordPlace (now (bytes .entry))) (partsOf (now (bytes .entry))) k per) ⌝ }
 {
     let n = tables::count_of(bytes, k) * per;
@@ -105,7 +104,7 @@ fn then_wild(so: Answer, bytes: &[u8], k: usize, per: usize) -> Answer
 
 // 7
 fn floats_verdict(bytes: &[u8]) -> Answer
-    requires { ⌜ RightHeader (now bytes) × (136 ≤ length (now bytes)) ⌝ }
+    requires { ⌜ RightHeader (now bytes) ⌝ }
     ensures { λ r. ⌜ r ≡ rule7 (wordPlace (now (bytes .entry))) (partsOf (now (bytes .entry))) ⌝ }
 {
     let i = first_wild_head(bytes);
@@ -118,7 +117,7 @@ fn floats_verdict(bytes: &[u8]) -> Answer
 
 // Corner e of face f names no vertex, or is the next corner too.
 fn wrong_corner(bytes: &[u8], f: usize, e: usize) -> bool
-    requires { ⌜ RightHeader (now bytes) × (136 ≤ length (now bytes)) × (f < (partsOf (now bytes) .faces)) × (e < 3) ⌝ }
+    requires { ⌜ RightHeader (now bytes) × (f < (partsOf (now bytes) .faces)) × (e < 3) ⌝ }
     ensures { λ r. ⌜ r ≡ wrongCorner (partsOf (now (bytes .entry))) f e ⌝ }
 {
     let n = tables::count_of(bytes, 0);
@@ -130,7 +129,7 @@ fn wrong_corner(bytes: &[u8], f: usize, e: usize) -> bool
 }
 
 fn wrong_corners(bytes: &[u8], f: usize) -> bool
-    requires { ⌜ RightHeader (now bytes) × (136 ≤ length (now bytes)) × (f < (partsOf (now bytes) .faces)) ⌝ }
+    requires { ⌜ RightHeader (now bytes) × (f < (partsOf (now bytes) .faces)) ⌝ }
     ensures { λ r. ⌜ r ≡ wrongCorners (partsOf (now (bytes .entry))) f ⌝ }
 {
     let mut e = 0;
@@ -145,7 +144,7 @@ fn wrong_corners(bytes: &[u8], f: usize) -> bool
 
 // The lowest face with wrong corners, of n.
 fn first_cornered(bytes: &[u8], n: usize) -> usize
-    requires { ⌜ RightHeader (now bytes) × (136 ≤ length (now bytes)) × (n ≡ (partsOf (now bytes) .faces)) ⌝ }
+    requires { ⌜ RightHeader (now bytes) × (n ≡ (partsOf (now bytes) .faces)) ⌝ }
     ensures { λ r. ⌜ r ≡ lowest n (wrongCorners (partsOf (now (bytes .entry)))) ⌝ }
 {
     let mut f = 0;
@@ -192,7 +191,7 @@ fn first_strange(bytes: &[u8], n: usize) -> usize
 }
 
 fn is_misplaced(bytes: &[u8], f: usize) -> bool
-    requires { ⌜ RightHeader (now bytes) × (136 ≤ length (now bytes)) × (f < (partsOf (now bytes) .faces)) ⌝ }
+    requires { ⌜ RightHeader (now bytes) × (f < (partsOf (now bytes) .faces)) ⌝ }
     ensures { λ r. ⌜ r ≡ misplaced (partsOf (now (bytes .entry))) f ⌝ }
 {
     let a = tables::count_of(bytes, 6);
@@ -205,7 +204,7 @@ fn is_misplaced(bytes: &[u8], f: usize) -> bool
 
 // The lowest misplaced face, of n.
 fn first_misplaced(bytes: &[u8], n: usize) -> usize
-    requires { ⌜ RightHeader (now bytes) × (136 ≤ length (now bytes)) × (n ≡ (partsOf (now bytes) .faces)) ⌝ }
+    requires { ⌜ RightHeader (now bytes) × (n ≡ (partsOf (now bytes) .faces)) ⌝ }
     ensures { λ r. ⌜ r ≡ lowest n (misplaced (partsOf (now (bytes .entry)))) ⌝ }
 {
     let mut f = 0;
@@ -220,7 +219,7 @@ fn first_misplaced(bytes: &[u8], n: usize) -> usize
 
 // Rules 7 to 10 of a file with a right header.
 pub fn mesh_verdict(bytes: &[u8]) -> Answer
-    requires { ⌜ RightHeader (now bytes) × (136 ≤ length (now bytes)) ⌝ }
+    requires { ⌜ RightHeader (now bytes) ⌝ }
     ensures { λ r. ⌜ r ≡ rules7to10 (wordPlace (now (bytes .entry))) (partsOf (now (bytes .entry))) ⌝ }
 {
     let so = floats_verdict(bytes);

@@ -2,7 +2,6 @@
 use verdict::Answer;
 ghost use mathlib.Core.Path.{_≡_};
 ghost use Prim.Native.Nat.{_*_, _-_, _<_, _≤_};
-ghost use lib.ListN.{length};
 ghost use Rattle.verdict.specs.Lowest.{lowest};
 ghost use Rattle.verdict.specs.Verdict.{_then_};
 ghost use Rattle.tables.specs.Header.{RightHeader};
@@ -150,7 +149,7 @@ fn nodes_for(faces: usize) -> usize
 
 // 11 and 12, after what was found so far.
 pub fn then_nodes(so: Answer, bytes: &[u8]) -> Answer
-    requires { ⌜ RightHeader (now bytes) × (136 ≤ length (now bytes)) ⌝ }
+    requires { ⌜ RightHeader (now bytes) ⌝ }
     ensures { λ r. ⌜ r ≡ (so then rules11to12 (partsOf (now (bytes .entry)))) ⌝ }
 {
     let nodes = node_count(bytes);

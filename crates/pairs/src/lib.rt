@@ -12,7 +12,7 @@ ghost use Rattle.pairs.specs.Index.{Ready};
 
 // The number of half-edges of walkable faces.
 pub fn halves_of(bytes: &[u8]) -> usize
-    requires { ⌜ RightHeader (now bytes) × (136 ≤ length (now bytes)) ⌝ }
+    requires { ⌜ RightHeader (now bytes) ⌝ }
     ensures { λ r. ⌜ (r ≡ halves (partsOf (now (bytes .entry)))) × (r ≤ 12288) ⌝ }
 {
     3 * tables::count_of(bytes, 6)
@@ -20,7 +20,7 @@ pub fn halves_of(bytes: &[u8]) -> usize
 
 // The vertex where half-edge h starts.
 pub fn from_of(bytes: &[u8], h: usize) -> usize
-    requires { ⌜ RightHeader (now bytes) × (136 ≤ length (now bytes)) × (h < halves (partsOf (now bytes))) ⌝ }
+    requires { ⌜ RightHeader (now bytes) × (h < halves (partsOf (now bytes))) ⌝ }
     ensures { λ r. ⌜ r ≡ from (partsOf (now (bytes .entry))) h ⌝ }
 {
     tables::corner_of(bytes, h / 3, h % 3)
@@ -28,7 +28,7 @@ pub fn from_of(bytes: &[u8], h: usize) -> usize
 
 // The vertex where half-edge h ends.
 pub fn to_of(bytes: &[u8], h: usize) -> usize
-    requires { ⌜ RightHeader (now bytes) × (136 ≤ length (now bytes)) × (h < halves (partsOf (now bytes))) ⌝ }
+    requires { ⌜ RightHeader (now bytes) × (h < halves (partsOf (now bytes))) ⌝ }
     ensures { λ r. ⌜ r ≡ to (partsOf (now (bytes .entry))) h ⌝ }
 {
     tables::corner_of(bytes, h / 3, (h % 3 + 1) % 3)
@@ -36,7 +36,7 @@ pub fn to_of(bytes: &[u8], h: usize) -> usize
 
 // Adjacency entry h.
 fn adjacent_of(bytes: &[u8], h: usize) -> u32
-    requires { ⌜ RightHeader (now bytes) × (136 ≤ length (now bytes)) × (h < halves (partsOf (now bytes))) ⌝ }
+    requires { ⌜ RightHeader (now bytes) × (h < halves (partsOf (now bytes))) ⌝ }
     ensures { λ r. ⌜ r ≡ adjacentTo (partsOf (now (bytes .entry))) h ⌝ }
 {
     tables::word_of(bytes, 6, h / 3, h % 3)
@@ -44,7 +44,7 @@ fn adjacent_of(bytes: &[u8], h: usize) -> u32
 
 // Whether half-edge h runs from vertex a to vertex b.
 fn runs_so(bytes: &[u8], a: usize, b: usize, h: usize) -> bool
-    requires { ⌜ RightHeader (now bytes) × (136 ≤ length (now bytes)) × (h < halves (partsOf (now bytes))) ⌝ }
+    requires { ⌜ RightHeader (now bytes) × (h < halves (partsOf (now bytes))) ⌝ }
     ensures { λ r. ⌜ r ≡ runs (partsOf (now (bytes .entry))) a b h ⌝ }
 {
     if from_of(bytes, h) == a {
@@ -55,7 +55,7 @@ fn runs_so(bytes: &[u8], a: usize, b: usize, h: usize) -> bool
 
 // The lowest half-edge under n that runs from vertex a to vertex b, or n: the one search.
 fn first_run(bytes: &[u8], work: &[u8], n: usize, a: usize, b: usize) -> usize
-    requires { ⌜ RightHeader (now bytes) × (136 ≤ length (now bytes)) × (n ≤ halves (partsOf (now bytes))) ⌝ }
+    requires { ⌜ RightHeader (now bytes) × (n ≤ halves (partsOf (now bytes))) ⌝ }
     requires ready { ⌜ Ready (partsOf (now bytes)) (now work) ⌝ }
     ensures { λ r. ⌜ r ≡ lowest n (runs (partsOf (now (bytes .entry))) a b) ⌝ }
 {
@@ -71,14 +71,14 @@ fn first_run(bytes: &[u8], work: &[u8], n: usize, a: usize, b: usize) -> usize
 
 // Makes the memory ready for the search.
 fn prepare(bytes: &[u8], work: &mut [u8])
-    requires { ⌜ RightHeader (now bytes) × (136 ≤ length (now bytes)) × (workSize ≤ length (now work)) ⌝ }
+    requires { ⌜ RightHeader (now bytes) × (workSize ≤ length (now work)) ⌝ }
     ensures ready { λ _. ⌜ Ready (partsOf (now (bytes .entry))) (now (work .exit)) ⌝ }
     ensures rest { λ _. ⌜ clearedTo workSize (now (work .exit)) ≡ clearedTo workSize (now (work .entry)) ⌝ }
 {}
 
 // Whether half-edge h runs exactly as a lower one.
 fn repeats_at(bytes: &[u8], work: &[u8], h: usize) -> bool
-    requires { ⌜ RightHeader (now bytes) × (136 ≤ length (now bytes)) × (h < halves (partsOf (now bytes))) ⌝ }
+    requires { ⌜ RightHeader (now bytes) × (h < halves (partsOf (now bytes))) ⌝ }
     requires ready { ⌜ Ready (partsOf (now bytes)) (now work) ⌝ }
     ensures { λ r. ⌜ r ≡ repeats (partsOf (now (bytes .entry))) h ⌝ }
 {
@@ -88,7 +88,7 @@ fn repeats_at(bytes: &[u8], work: &[u8], h: usize) -> bool
 }
 
 fn first_repeat(bytes: &[u8], work: &[u8]) -> usize
-    requires { ⌜ RightHeader (now bytes) × (136 ≤ length (now bytes)) ⌝ }
+    requires { ⌜ RightHeader (now bytes) ⌝ }
     requires ready { ⌜ Ready (partsOf (now bytes)) (now work) ⌝ }
     ensures { λ r. ⌜ r ≡ lowest (halves (partsOf (now (bytes .entry)))) (repeats (partsOf (now (bytes .entry)))) ⌝ }
 {
@@ -105,7 +105,7 @@ fn first_repeat(bytes: &[u8], work: &[u8]) -> usize
 
 // The partner of half-edge h, or the number of half-edges.
 fn partner_of(bytes: &[u8], work: &[u8], h: usize) -> usize
-    requires { ⌜ RightHeader (now bytes) × (136 ≤ length (now bytes)) × (h < halves (partsOf (now bytes))) ⌝ }
+    requires { ⌜ RightHeader (now bytes) × (h < halves (partsOf (now bytes))) ⌝ }
     requires ready { ⌜ Ready (partsOf (now bytes)) (now work) ⌝ }
     ensures { λ r. ⌜ r ≡ partner (partsOf (now (bytes .entry))) h ⌝ }
 {
@@ -117,7 +117,7 @@ fn partner_of(bytes: &[u8], work: &[u8], h: usize) -> usize
 
 // What adjacency entry h should be.
 fn pairing_of(bytes: &[u8], work: &[u8], h: usize) -> u32
-    requires { ⌜ RightHeader (now bytes) × (136 ≤ length (now bytes)) × (h < halves (partsOf (now bytes))) ⌝ }
+    requires { ⌜ RightHeader (now bytes) × (h < halves (partsOf (now bytes))) ⌝ }
     requires ready { ⌜ Ready (partsOf (now bytes)) (now work) ⌝ }
     ensures { λ r. ⌜ r ≡ pairing (partsOf (now (bytes .entry))) h ⌝ }
 {
@@ -131,7 +131,7 @@ fn pairing_of(bytes: &[u8], work: &[u8], h: usize) -> u32
 
 // Whether adjacency entry h is wrong.
 fn wrong_adjacent(bytes: &[u8], work: &[u8], h: usize) -> bool
-    requires { ⌜ RightHeader (now bytes) × (136 ≤ length (now bytes)) × (h < halves (partsOf (now bytes))) ⌝ }
+    requires { ⌜ RightHeader (now bytes) × (h < halves (partsOf (now bytes))) ⌝ }
     requires ready { ⌜ Ready (partsOf (now bytes)) (now work) ⌝ }
     ensures { λ r. ⌜ r ≡ wrongAdjacent (partsOf (now (bytes .entry))) h ⌝ }
 {
@@ -141,7 +141,7 @@ fn wrong_adjacent(bytes: &[u8], work: &[u8], h: usize) -> bool
 }
 
 fn first_wrong_adjacent(bytes: &[u8], work: &[u8]) -> usize
-    requires { ⌜ RightHeader (now bytes) × (136 ≤ length (now bytes)) ⌝ }
+    requires { ⌜ RightHeader (now bytes) ⌝ }
     requires ready { ⌜ Ready (partsOf (now bytes)) (now work) ⌝ }
     ensures { λ r. ⌜ r ≡ lowest (halves (partsOf (now (bytes .entry)))) (wrongAdjacent (partsOf (now (bytes .entry)))) ⌝ }
 {
@@ -158,7 +158,7 @@ fn first_wrong_adjacent(bytes: &[u8], work: &[u8]) -> usize
 
 // Rules 15 and 16.
 pub fn pairs_verdict(bytes: &[u8], work: &mut [u8]) -> Answer
-    requires { ⌜ RightHeader (now bytes) × (136 ≤ length (now bytes)) × (workSize ≤ length (now work)) ⌝ }
+    requires { ⌜ RightHeader (now bytes) × (workSize ≤ length (now work)) ⌝ }
     ensures answer { λ r. ⌜ r ≡ rules15to16 (partsOf (now (bytes .entry))) ⌝ }
     ensures memory { λ _. ⌜ now (work .exit) ≡ clearedTo workSize (now (work .entry)) ⌝ }
 {
@@ -173,7 +173,7 @@ pub fn pairs_verdict(bytes: &[u8], work: &mut [u8]) -> Answer
 
 // Whether half-edge h is a border: where 15 and 16 are unbroken the adjacency entry says so.
 pub fn is_border(bytes: &[u8], h: usize) -> bool
-    requires { ⌜ RightHeader (now bytes) × (136 ≤ length (now bytes)) × RightPairs (partsOf (now bytes)) ⌝ }
+    requires { ⌜ RightHeader (now bytes) × RightPairs (partsOf (now bytes)) ⌝ }
     ensures { λ r. ⌜ r ≡ border (partsOf (now (bytes .entry))) h ⌝ }
 {
     if h < halves_of(bytes) {

@@ -13,6 +13,7 @@ use Rattle.nodes.specs.Nodes.{nodesOf, faceOf}
 use Rattle.tree.specs.Tree.{ends}
 use Rattle.tree.specs.Visits.{visitedCount, least}
 use Rattle.tree.proofs.Deep.{Kids}
+use Rattle.tree.proofs.Sight.{ends-more, length-cut}
 use Rattle.tree.proofs.Count.{length-ends, count-law}
 use Rattle.tree.proofs.Least.{lowest-law}
 use Rattle.verdict.specs.Verdict.{accepted}
@@ -34,9 +35,14 @@ module _ (b : List ℕ) (r : Ready b) (some : 0 < partsOf b .faces) where
   pub root-under : 0 < partsOf b .nodes
   root-under = omega (arith, r .floor .nodes .count)
 
-  pub all-few : length (ends (nodesOf (partsOf b)) 64 0) ≤ 8191
-  all-few =
-      omega (arith, length-ends (nodesOf (partsOf b)) (faceOf (partsOf b)) 0 (partsOf b .nodes) (partsOf b .faces) root-under (kids b r) (r .floor .tree), r .floor .sized .nodes)
+  -- no walk of so few steps sees more nodes than there are
+  pub all-few : (d : ℕ) → d ≤ 64 → length (ends (nodesOf (partsOf b)) d 0) ≤ 8191
+  all-few d h =
+      let t = nodesOf (partsOf b) in
+      omega (arith, ends-more t d 64 0 h, length-ends t (faceOf (partsOf b)) 0 (partsOf b .nodes) (partsOf b .faces) root-under (kids b r) (r .floor .tree), r .floor .sized .nodes)
+
+  pub few-seen : (x y : ℤ) (d c : ℕ) → d ≤ 64 → c ≡ length (ends (shape (partsOf b) x y) d 0) → c ≤ 8191
+  few-seen x y d c h e = omega (arith, length-cut (nodesOf (partsOf b)) (boxHolds (partsOf b) x y) d 0, all-few d h)
 
   module _ (x y : ℤ) where
     -- THE COUNT: the nodes that the walk sees are those all of whose ancestors' boxes hold x and y

@@ -90,7 +90,7 @@ fn is_off_grid(bytes: &[u8], v: usize) -> bool
 
 // The lowest vertex off the grid, or the number of vertices.
 fn first_off_grid(bytes: &[u8]) -> usize
-    requires { ⌜ RightHeader (now bytes) × (136 ≤ length (now bytes)) ⌝ }
+    requires { ⌜ RightHeader (now bytes) ⌝ }
     ensures { λ r. ⌜ r ≡ lowest (partsOf (now (bytes .entry)) .vertices) (offGrid (partsOf (now (bytes .entry)))) ⌝ }
 {
     let vertices = tables::count_of(bytes, 0);
@@ -106,7 +106,7 @@ fn first_off_grid(bytes: &[u8]) -> usize
 
 // Rules 29 and 30.
 fn point_verdict(bytes: &[u8], x: i64, y: i64) -> Answer
-    requires { ⌜ RightHeader (now bytes) × (136 ≤ length (now bytes)) ⌝ }
+    requires { ⌜ RightHeader (now bytes) ⌝ }
     ensures { λ r. ⌜ r ≡ (rule29 x y then rule30 (partsOf (now (bytes .entry)))) ⌝ }
 {
     let near = is_in_reach(x, y);

@@ -4,7 +4,7 @@ use mathlib.Core.List.{List}
 use Prim.Native.Nat.{ℕ, _≤_}
 use native.Mathlib.Omega.{arith}
 use lib.Count.{ones}
-use lib.ListN.{length, getD}
+use lib.ListN.{getD}
 use Rattle.verdict.specs.declared.Answer.{Answer}
 use Rattle.text.specs.Sound.{rules31to32}
 use Rattle.layout.specs.declared.Layout.{Layout}

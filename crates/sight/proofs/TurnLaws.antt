@@ -11,15 +11,13 @@ use Rattle.verdict.proofs.Bools.{test}
 use Rattle.letters.specs.Class.{isEnd}
 use Rattle.number.specs.Count.{isCount}
 use Rattle.text.specs.Scan.{run, apart, words, lineAt}
-use Rattle.text.specs.Reading.{Word, Line, nth, readLines}
-use Rattle.text.specs.Written.{wordLines}
-use Rattle.text.proofs.SplitLaws.{piece-within}
-use Rattle.text.proofs.ReadingLaws.{rest, scan-next, scan-stop, scan-end}
+use Rattle.text.specs.Reading.{Word, Line, nth}
+use Rattle.text.proofs.ReadingLaws.{Standing, standing, stand-next, stand-stop, stand-end}
 use Rattle.sight.specs.declared.Looking.{Looking}
 use Rattle.sight.specs.declared.Turn.{Turn}
 use Rattle.sight.specs.declared.Sight.{Sight}
 use Rattle.sight.specs.Rows.{sees, noRows}
-use Rattle.sight.specs.Grammar.{roomOf, roomFault, lineFault, movedTo, rowsBehind, State, start, fault, next, finish, sightGrammar}
+use Rattle.sight.specs.Grammar.{roomOf, roomFault, lineFault, movedTo, rowsBehind, start, fault, next, finish, sightGrammar}
 use Rattle.sight.specs.Sight.{grammar}
 use Rattle.sight.specs.Code.{asRead, noSight, stateOf, turnOf, rowsAfter}
 use Rattle.sight.proofs.RoomLaws.{room-within}
@@ -73,26 +71,24 @@ module _ (names : List Word) (rows l u : List ℕ) (c : Looking) (n room row f :
 
 -- ---- the lines from a place on
 
--- the reader stands before the line that starts at a place, behind so many lines: the observer has a row, and the lines from there on say what all do
-pub record Standing (names : List Word) (s rows : List ℕ) (c : Looking) (passed at : ℕ) : Type 0 where
+-- where the reader stands: what is left of the lines, and an observer that has a row
+pub record Reader (names : List Word) (s rows : List ℕ) (c : Looking) (passed at : ℕ) : Type 0 where
   pub seer : c .observer < 64
-  pub fewer : passed ≤ at
-  pub within : at ≤ length s + 1
-  pub same : grammar names s ≡ readLines (sightGrammar names) passed (stateOf c rows) (rest s at)
+  pub stands : Standing (sightGrammar names) s (grammar names s) (stateOf c rows) passed at
 
 -- before the first line
-pub standing : (names : List Word) (s : List ℕ) → Standing names s noRows (start .at) 0 0
-unfolding grammar wordLines
-standing names s = record { seer = omega arith; fewer = omega arith; within = omega arith; same = refl }
+pub begun : (names : List Word) (s : List ℕ) → Reader names s noRows (start .at) 0 0
+unfolding grammar
+begun names s = record { seer = omega arith; stands = standing (sightGrammar names) s start }
 
-module _ (names : List Word) (s rows l : List ℕ) (c : Looking) (passed at : ℕ) (inv : Standing names s rows c passed at) (h : at < length s) (el : l ≡ lineAt s at) (t : Turn) (et : t ≡ turnOf names (stateOf c rows) (words l)) where
+module _ (names : List Word) (s rows l : List ℕ) (c : Looking) (passed at : ℕ) (inv : Reader names s rows c passed at) (h : at < length s) (el : l ≡ lineAt s at) (t : Turn) (et : t ≡ turnOf names (stateOf c rows) (words l)) where
   told : t .fault ≡ fault names (stateOf c rows) (words (lineAt s at))
   unfolding turnOf
   told = rw (et, el)
 
   pub turn-stops : (t .fault ≡ 0 → ⊥) → noSight (t .fault) (passed + 1) ≡ asRead (grammar names s)
   unfolding asRead noSight
-  turn-stops z = rw (inv .same ∙ scan-stop (sightGrammar names) s passed at (stateOf c rows) h (λ y. z (told ∙ y)), ← told)
+  turn-stops z = rw (stand-stop (inv .stands) h (λ y. z (told ∙ y)), ← told)
 
   module _ (z : t .fault ≡ 0) where
     none : fault names (stateOf c rows) (words (lineAt s at)) ≡ 0
@@ -107,23 +103,17 @@ module _ (names : List Word) (s rows l : List ℕ) (c : Looking) (passed at : �
     still-within few =
         rw moved-on (observer-within (length names) c _ (roomOf names (nth (words (lineAt s at)) 0)) _ (room-within names _) none (words (lineAt s at)) refl few (inv .seer))
 
-    pub turn-more : (more : List ℕ) (e : ℕ) → length names ≤ 64 → more ≡ rowsAfter names (stateOf c rows) (words l) → e ≡ at + run (apart isEnd) (drop at s) → Standing names s more (t .next) (passed + 1) (e + 1)
+    pub turn-more : (more : List ℕ) (e : ℕ) → length names ≤ 64 → more ≡ rowsAfter names (stateOf c rows) (words l) → e ≡ at + run (apart isEnd) (drop at s) → Reader names s more (t .next) (passed + 1) (e + 1)
     unfolding rowsAfter
     turn-more more e few em ee =
         let marked : more ≡ next names (stateOf c rows) (words (lineAt s at)) .rows = em ∙ rw (el, eq-eqb _ 0 none) in
-        let ends = piece-within isEnd s at e ee (omega arith) in
-        record {
-          seer = still-within few;
-          fewer = omega (arith, inv .fewer, ends);
-          within = omega (arith, ends);
-          same = inv .same ∙ scan-next (sightGrammar names) s passed at e (stateOf c rows) ee h none ∙ rw (moved-on, marked);
-        }
+        record { seer = still-within few; stands = rw (moved-on, marked) (stand-next (inv .stands) ee h none) }
 
 -- ---- the ends
 
-module _ (names : List Word) (s rows : List ℕ) (c : Looking) (passed at : ℕ) (inv : Standing names s rows c passed at) (h : length s ≤ at) where
+module _ (names : List Word) (s rows : List ℕ) (c : Looking) (passed at : ℕ) (inv : Reader names s rows c passed at) (h : length s ≤ at) where
   ends : grammar names s ≡ finish (stateOf c rows) passed
-  ends = inv .same ∙ scan-end (sightGrammar names) s passed at (stateOf c rows) h
+  ends = stand-end (inv .stands) h
 
   pub ends-early : (c .left ≡ 0 → ⊥) → noSight 38 passed ≡ asRead (grammar names s)
   unfolding asRead noSight finish

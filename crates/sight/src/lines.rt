@@ -9,7 +9,7 @@ use text::word;
 use text::word_count;
 ghost use mathlib.Core.Path.{_≡_};
 ghost use mathlib.Core.Bool.{true, false};
-ghost use Prim.Native.Nat.{_+_, _<_, _≤_};
+ghost use Prim.Native.Nat.{_+_, _<_};
 ghost use lib.ListN.{length, getD};
 ghost use Rattle.text.specs.Scan.{words};
 ghost use Rattle.names.specs.Name.{isName};

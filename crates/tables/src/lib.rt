@@ -93,7 +93,7 @@ pub fn span_at(bytes: &[u8], k: usize) -> Span
 
 // How many entries table k has.
 pub fn count_of(bytes: &[u8], k: usize) -> usize
-    requires { ⌜ (136 ≤ length (now bytes)) × (k < 9) ⌝ }
+    requires { ⌜ RightHeader (now bytes) × (k < 9) ⌝ }
     ensures { λ r. ⌜ (r ≡ countOf (partsOf (now (bytes .entry))) k) × (r < 4294967296) ⌝ }
 {
     let t = table_at(k);
@@ -102,7 +102,7 @@ pub fn count_of(bytes: &[u8], k: usize) -> usize
 
 // The root field.
 pub fn root_of(bytes: &[u8]) -> u32
-    requires { ⌜ 136 ≤ length (now bytes) ⌝ }
+    requires { ⌜ RightHeader (now bytes) ⌝ }
     ensures { λ r. ⌜ r ≡ (partsOf (now (bytes .entry)) .root) ⌝ }
 {
     wire::u32_at(bytes, 108)
@@ -110,7 +110,7 @@ pub fn root_of(bytes: &[u8]) -> u32
 
 // The bits of the header's float i.
 pub fn float_word(bytes: &[u8], i: usize) -> u32
-    requires { ⌜ (136 ≤ length (now bytes)) × (i < 15) ⌝ }
+    requires { ⌜ RightHeader (now bytes) × (i < 15) ⌝ }
     ensures { λ r. ⌜ r ≡ getD (partsOf (now (bytes .entry)) .floats) i 0 ⌝ }
 {
     wire::u32_at(bytes, 12 + 4 * i)

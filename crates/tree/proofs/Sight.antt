@@ -45,6 +45,20 @@ module _ (t : Nodes) where
       → length (ends t d n) ≡ 1 + (length (ends t (d - 1) (t .left n)) + length (ends t (d - 1) (t .right n)))
   length-go d n f e = rw (ends-go d n f e) (omega (arith, length-append (ends t (d - 1) (t .left n)) (ends t (d - 1) (t .right n))))
 
+  some-end : (d n : ℕ) → 1 ≤ length (ends t d n)
+  unfolding ends
+  some-end zero n = omega arith
+  some-end (suc d) n = omega arith
+
+  -- no fewer paths where more steps are allowed
+  pub ends-more : (d e n : ℕ) → d ≤ e → length (ends t d n) ≤ length (ends t e n)
+  ends-more zero e n h = rw (ends-zero 0 n refl) (some-end e n)
+  ends-more (suc d) zero n h = absurd (omega arith)
+  ends-more (suc d) (suc e) n h =
+      let l = ends-more d e (t .left n) (omega arith) in
+      let r = ends-more d e (t .right n) (omega arith) in
+      test (t .inner n) (λ y. omega (arith, length-inner d n y, length-inner e n y)) (λ y. rw (ends-leaf t d n y) (some-end (suc e) n))
+
 -- ---- the shape as the walk sees it
 
 module _ (t : Nodes) (h : ℕ → Bool) where

@@ -22,7 +22,7 @@ then-loops-requires c κs =
     let passed = c .before .before in
     let edges = passed .before .before .before .before in
     let s = edges .before .before .before .before .before in
-    (s .pre .0 .0, s .pre .0 .1, edges-in _ (ap (λ (x : Answer). x .number) (sym (edges .edges-verdict .ensures .0)) ∙ passed .if1 .left))
+    (s .pre .0 .0, edges-in _ (ap (λ (x : Answer). x .number) (sym (edges .edges-verdict .ensures .0)) ∙ passed .if1 .left))
 
 returns-2 : tie.Need-returns-2
 returns-2 c =

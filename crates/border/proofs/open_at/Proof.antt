@@ -8,12 +8,12 @@ use Rattle.border.proofs.open_at.Tie as tie
 to-of-requires : tie.Need-to-of-requires
 to-of-requires c κs =
     let s = c .before .before .before .before in
-    (s .pre .0 .0, s .pre .0 .1, rw (c .before .edge-of .ensures) (s .pre .0 .2 .below _ (omega arith)))
+    (s .pre .0 .0, rw (c .before .edge-of .ensures) (s .pre .0 .1 .below _ (omega arith)))
 
 from-of-requires : tie.Need-from-of-requires
 from-of-requires c κs =
     let s = c .before .before .before .before .before in
-    (s .pre .0 .0, s .pre .0 .1, rw (c .before .edge-of2 .ensures) (s .pre .0 .2 .below _ (omega arith)))
+    (s .pre .0 .0, rw (c .before .edge-of2 .ensures) (s .pre .0 .1 .below _ (omega arith)))
 
 returns : tie.Need-returns
 unfolding openAt

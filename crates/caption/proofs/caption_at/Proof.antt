@@ -9,20 +9,8 @@ use borrow.Author.Needs.{needs}
 use Rattle.caption.proofs.caption_at.Statement.{statement}
 use Rattle.caption.proofs.caption_at.Tie as tie
 
-read-requires : tie.Need-read-requires
-read-requires c κs = search needs
-
-mul-at : tie.Need-mul-at
-mul-at c = search needs
-
 element-copy-out-at : tie.Need-element-copy-out-at
 element-copy-out-at c = omega (arith, rooms-kept _ _ (c .before .read .ensures) .few, c .if1 .taken)
-
-line-at-requires : tie.Need-line-at-requires
-line-at-requires c κs = search needs
-
-word-requires : tie.Need-word-requires
-word-requires c κs = search needs
 
 found-in-requires : tie.Need-found-in-requires
 found-in-requires c κs =
@@ -36,20 +24,8 @@ returns c =
     let h = c .before .before .before .before .if1 .taken in
     place-first _ _ _ _ _ (has-it _ _ (r .read .ensures) _ h) (its-name _ _ (r .read .ensures) _ _ _ h (c .before .before .line-at .ensures) (c .before .word .ensures)) (c .found-in .ensures)
 
-read-requires-2 : tie.Need-read-requires-2
-read-requires-2 c κs = search needs
-
-mul-at-2 : tie.Need-mul-at-2
-mul-at-2 c = search needs
-
 element-copy-out-at-2 : tie.Need-element-copy-out-at-2
 element-copy-out-at-2 c = omega (arith, rooms-kept _ _ (c .before .read2 .ensures) .few, c .if2 .taken)
-
-line-at-requires-2 : tie.Need-line-at-requires-2
-line-at-requires-2 c κs = search needs
-
-word-requires-2 : tie.Need-word-requires-2
-word-requires-2 c κs = search needs
 
 found-in-requires-2 : tie.Need-found-in-requires-2
 found-in-requires-2 c κs =
@@ -73,19 +49,4 @@ returns-3 c =
 pub caption-at-spec : {M : Type 1} → statement M
 caption-at-spec =
     tie.close
-    (tie.spec
-    read-requires
-    mul-at
-    element-copy-out-at
-    line-at-requires
-    word-requires
-    found-in-requires
-    returns
-    read-requires-2
-    mul-at-2
-    element-copy-out-at-2
-    line-at-requires-2
-    word-requires-2
-    found-in-requires-2
-    returns-2
-    returns-3)
+    (tie.spec (search needs) (search needs) element-copy-out-at (search needs) (search needs) found-in-requires returns (search needs) (search needs) element-copy-out-at-2 (search needs) (search needs) found-in-requires-2 returns-2 returns-3)

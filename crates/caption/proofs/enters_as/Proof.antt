@@ -5,15 +5,6 @@ use borrow.Author.Needs.{needs}
 use Rattle.caption.proofs.enters_as.Statement.{statement}
 use Rattle.caption.proofs.enters_as.Tie as tie
 
-word-count-requires : tie.Need-word-count-requires
-word-count-requires c κs = search needs
-
-word-requires : tie.Need-word-requires
-word-requires c κs = search needs
-
-same-word-requires : tie.Need-same-word-requires
-same-word-requires c κs = search needs
-
 returns : tie.Need-returns
 returns c = enters-by _ _ _ _ (sym (c .before .before .before .word-count .ensures) ∙ c .before .before .if1 .taken) (c .before .word .ensures) (c .same-word .ensures)
 
@@ -22,4 +13,4 @@ returns-2 c = enters-no _ _ (λ e. c .if1 .left (c .before .word-count .ensures 
 
 pub enters-as-spec : {M : Type 1} → statement M
 enters-as-spec =
-    tie.close (tie.spec word-count-requires word-requires same-word-requires returns returns-2)
+    tie.close (tie.spec (search needs) (search needs) (search needs) returns returns-2)

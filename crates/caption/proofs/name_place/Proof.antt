@@ -36,23 +36,11 @@ ends c = piece-within isEnd _ _ _ (c .line-end .ensures) (omega (arith, c .befor
 loop-holds : tie.Need-loop-holds Inv-loop μ-loop
 loop-holds c = (omega arith, refl)
 
-line-at-requires : tie.Need-line-at-requires Inv-loop μ-loop
-line-at-requires c κs = search needs
-
-enters-as-requires : tie.Need-enters-as-requires Inv-loop μ-loop
-enters-as-requires c κs = search needs
-
-skip-gap-requires : tie.Need-skip-gap-requires Inv-loop μ-loop
-skip-gap-requires c κs = search needs
-
 add-result : tie.Need-add-result Inv-loop μ-loop
 add-result c = omega (arith, found c .1, c .before .before .before .before .before .before .before .before .pre)
 
 returns : tie.Need-returns Inv-loop μ-loop
 returns c = (found c .0, omega (arith, found c .1, c .before .before .before .before .before .before .before .before .pre))
-
-line-end-requires : tie.Need-line-end-requires Inv-loop μ-loop
-line-end-requires c κs = search needs
 
 add-at : tie.Need-add-at Inv-loop μ-loop
 add-at c = omega (arith, ends c, c .before .before .before .before .before .before .before .before .pre)
@@ -71,17 +59,4 @@ returns-2 c = (place-none _ _ _ (c .loop-test .left) ∙ sym (c .before .loop .i
 pub name-place-spec : {M : Type 1} → statement M
 name-place-spec =
     tie.close
-    (tie.spec
-    Inv-loop
-    μ-loop
-    loop-holds
-    line-at-requires
-    enters-as-requires
-    skip-gap-requires
-    add-result
-    returns
-    line-end-requires
-    add-at
-    loop-less
-    loop-again
-    returns-2)
+    (tie.spec Inv-loop μ-loop loop-holds (search needs) (search needs) (search needs) add-result returns (search needs) add-at loop-less loop-again returns-2)

@@ -3,11 +3,8 @@ use borrow.Author.Needs.{needs}
 use Rattle.engine.proofs.wp_caption.Statement.{statement}
 use Rattle.engine.proofs.wp_caption.Tie as tie
 
-caption-at-requires : tie.Need-caption-at-requires
-caption-at-requires c κs = search needs
-
 returns : tie.Need-returns
 returns c = c .caption-at .ensures
 
 pub wp-caption-spec : {M : Type 1} → statement M
-wp-caption-spec = tie.close (tie.spec caption-at-requires returns)
+wp-caption-spec = tie.close (tie.spec (search needs) returns)

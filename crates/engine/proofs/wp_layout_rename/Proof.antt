@@ -3,14 +3,8 @@ use borrow.Author.Needs.{needs}
 use Rattle.engine.proofs.wp_layout_rename.Statement.{statement}
 use Rattle.engine.proofs.wp_layout_rename.Tie as tie
 
-layout-rename-requires : tie.Need-layout-rename-requires
-layout-rename-requires c κs = search needs
-
-same-length : tie.Need-same-length
-same-length c = search needs
-
 returns : tie.Need-returns
 returns c = c .before .before .layout-rename .ensures
 
 pub wp-layout-rename-spec : {M : Type 1} → statement M
-wp-layout-rename-spec = tie.close (tie.spec layout-rename-requires same-length returns)
+wp-layout-rename-spec = tie.close (tie.spec (search needs) (search needs) returns)

@@ -7,15 +7,6 @@ use Rattle.engine.proofs.Handed.{handed}
 use Rattle.engine.proofs.wp_link.Statement.{statement}
 use Rattle.engine.proofs.wp_link.Tie as tie
 
-link-requires : tie.Need-link-requires
-link-requires c κs = search needs
-
-same-length : tie.Need-same-length
-same-length c = search needs
-
-same-length-2 : tie.Need-same-length-2
-same-length-2 c = search needs
-
 returns : tie.Need-returns
 returns c =
     let at-link = c .before .before .before .before in
@@ -23,4 +14,4 @@ returns c =
     handed (λ z. editStep areaFloor (linkWish (a .args .entry) z) (lent (a .args .floor .now) (a .args .journal .now) (a .args .f) (a .args .k))) (a .args .transition) (a .fits .transition) (at-link .link .ensures)
 
 pub wp-link-spec : {M : Type 1} → statement M
-wp-link-spec = tie.close (tie.spec link-requires same-length same-length-2 returns)
+wp-link-spec = tie.close (tie.spec (search needs) (search needs) (search needs) returns)

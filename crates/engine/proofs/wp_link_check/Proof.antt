@@ -3,14 +3,8 @@ use borrow.Author.Needs.{needs}
 use Rattle.engine.proofs.wp_link_check.Statement.{statement}
 use Rattle.engine.proofs.wp_link_check.Tie as tie
 
-link-check-requires : tie.Need-link-check-requires
-link-check-requires c κs = search needs
-
-same-length : tie.Need-same-length
-same-length c = search needs
-
 returns : tie.Need-returns
 returns c = c .before .before .link-check .ensures
 
 pub wp-link-check-spec : {M : Type 1} → statement M
-wp-link-check-spec = tie.close (tie.spec link-check-requires same-length returns)
+wp-link-check-spec = tie.close (tie.spec (search needs) (search needs) returns)

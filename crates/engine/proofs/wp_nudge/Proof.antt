@@ -7,15 +7,6 @@ use Rattle.engine.proofs.Handed.{handed}
 use Rattle.engine.proofs.wp_nudge.Statement.{statement}
 use Rattle.engine.proofs.wp_nudge.Tie as tie
 
-nudge-requires : tie.Need-nudge-requires
-nudge-requires c κs = search needs
-
-same-length : tie.Need-same-length
-same-length c = search needs
-
-same-length-2 : tie.Need-same-length-2
-same-length-2 c = search needs
-
 returns : tie.Need-returns
 returns c =
     let at-nudge = c .before .before .before .before in
@@ -23,4 +14,4 @@ returns c =
     handed (λ z. editStep areaFloor (nudgeWish (a .args .place) z) (lent (a .args .floor .now) (a .args .journal .now) (a .args .f) (a .args .k))) (a .args .step) (a .fits .step) (at-nudge .nudge .ensures)
 
 pub wp-nudge-spec : {M : Type 1} → statement M
-wp-nudge-spec = tie.close (tie.spec nudge-requires same-length same-length-2 returns)
+wp-nudge-spec = tie.close (tie.spec (search needs) (search needs) (search needs) returns)

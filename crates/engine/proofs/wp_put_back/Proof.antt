@@ -3,14 +3,8 @@ use borrow.Author.Needs.{needs}
 use Rattle.engine.proofs.wp_put_back.Statement.{statement}
 use Rattle.engine.proofs.wp_put_back.Tie as tie
 
-put-back-requires : tie.Need-put-back-requires
-put-back-requires c κs = search needs
-
-same-length : tie.Need-same-length
-same-length c = search needs
-
 returns : tie.Need-returns
 returns c = c .before .before .put-back .ensures
 
 pub wp-put-back-spec : {M : Type 1} → statement M
-wp-put-back-spec = tie.close (tie.spec put-back-requires same-length returns)
+wp-put-back-spec = tie.close (tie.spec (search needs) (search needs) returns)

@@ -6,16 +6,10 @@ use Rattle.engine.proofs.Handed.{handed-both}
 use Rattle.engine.proofs.wp_query.Statement.{statement}
 use Rattle.engine.proofs.wp_query.Tie as tie
 
-query-requires : tie.Need-query-requires
-query-requires c κs = search needs
-
-same-length : tie.Need-same-length
-same-length c = search needs
-
 returns : tie.Need-returns
 returns c =
     let a = c .before .before .before .before .before .before in
     (handed-both (pointAnswer (a .args .bytes .now) (length (a .args .work .now))) (a .args .x) (a .args .y) (a .fits .x) (a .fits .y) (c .before .before .query .ensures .0), c .before .before .query .ensures .1)
 
 pub wp-query-spec : {M : Type 1} → statement M
-wp-query-spec = tie.close (tie.spec query-requires same-length returns)
+wp-query-spec = tie.close (tie.spec (search needs) (search needs) returns)

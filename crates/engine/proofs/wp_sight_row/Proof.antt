@@ -3,11 +3,8 @@ use borrow.Author.Needs.{needs}
 use Rattle.engine.proofs.wp_sight_row.Statement.{statement}
 use Rattle.engine.proofs.wp_sight_row.Tie as tie
 
-sight-row-requires : tie.Need-sight-row-requires
-sight-row-requires c κs = search needs
-
 returns : tie.Need-returns
 returns c = c .sight-row .ensures
 
 pub wp-sight-row-spec : {M : Type 1} → statement M
-wp-sight-row-spec = tie.close (tie.spec sight-row-requires returns)
+wp-sight-row-spec = tie.close (tie.spec (search needs) returns)

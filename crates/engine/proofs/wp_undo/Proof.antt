@@ -3,14 +3,8 @@ use borrow.Author.Needs.{needs}
 use Rattle.engine.proofs.wp_undo.Statement.{statement}
 use Rattle.engine.proofs.wp_undo.Tie as tie
 
-undo-requires : tie.Need-undo-requires
-undo-requires c κs = search needs
-
-same-length : tie.Need-same-length
-same-length c = search needs
-
 returns : tie.Need-returns
 returns c = c .before .before .undo .ensures
 
 pub wp-undo-spec : {M : Type 1} → statement M
-wp-undo-spec = tie.close (tie.spec undo-requires same-length returns)
+wp-undo-spec = tie.close (tie.spec (search needs) (search needs) returns)

@@ -12,7 +12,7 @@ returns : tie.Need-returns
 returns c =
     let s = c .before .before in
     let p = partsOf (now (s .args .bytes)) in
-    let h = sized-of _ (s .pre .0) in
+    let h = sized-of _ (s .pre) in
     (omega (arith, c .start-at .ensures .0, whole-length p h, length-form p h), c .start-at .ensures .1)
 
 pub form-length-spec : {M : Type 1} → statement M

@@ -29,12 +29,12 @@ room : (c : tie.Start Inv-loop μ-loop) → startOf (partsOf (now (c .args .byte
 room s =
     let p = partsOf (now (s .args .bytes)) in
     let h = sized-of _ (s .pre .0) in
-    omega (arith, whole-length p h, length-form p h, s .pre .2)
+    omega (arith, whole-length p h, length-form p h, s .pre .1)
 
 write-head-requires : tie.Need-write-head-requires Inv-loop μ-loop
 write-head-requires c κs =
     let s = c .before .before .before in
-    (s .pre .0, s .pre .1, omega (arith, room s, start-least (partsOf (now (s .args .bytes))) (sized-of _ (s .pre .0)) 9))
+    (s .pre .0, omega (arith, room s, start-least (partsOf (now (s .args .bytes))) (sized-of _ (s .pre .0)) 9))
 
 loop-holds : tie.Need-loop-holds Inv-loop μ-loop
 loop-holds c =
@@ -48,7 +48,7 @@ copy-table-requires c κs =
     let s = c .before .before .before .before .before .before .before .before .before in
     let b = now (s .args .bytes) in
     let k = c .before .before .loop .k in
-    (s .pre .0, s .pre .1, omega arith, omega (arith, start-next b (s .pre .0) k (omega arith), start-mono (partsOf b) (sized-of b (s .pre .0)) (k + 1) 9 (omega arith)))
+    (s .pre .0, omega arith, omega (arith, start-next b (s .pre .0) k (omega arith), start-mono (partsOf b) (sized-of b (s .pre .0)) (k + 1) 9 (omega arith)))
 
 loop-again : tie.Need-loop-again Inv-loop μ-loop
 loop-again c =

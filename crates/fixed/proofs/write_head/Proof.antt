@@ -2,9 +2,15 @@
 use borrow.Author.Needs.{needs}
 use native.Mathlib.Omega.{arith}
 use denote.Ref.{now}
+use Rattle.tables.proofs.Right.{header-met}
 use Rattle.fixed.proofs.Parted.{head-written}
 use Rattle.fixed.proofs.write_head.Statement.{statement}
 use Rattle.fixed.proofs.write_head.Tie as tie
+
+copy-part-requires : tie.Need-copy-part-requires
+copy-part-requires c κs =
+    let s = c .before .before .before in
+    ((λ n. omega (arith, header-met (now (s .args .bytes)) (s .pre .0) .long)), omega (arith, s .pre .1))
 
 returns : tie.Need-returns
 returns c =
@@ -13,8 +19,8 @@ returns c =
     let part = fields .before .before .before .before in
     let known = part .before .before .before in
     let s = known .before in
-    head-written (now (s .args .bytes)) (s .pre .0) (record { byte = λ i. omega (arith, known .shared-slice-known .given i) }) _ (s .pre .2)
+    head-written (now (s .args .bytes)) (s .pre .0) (record { byte = λ i. omega (arith, known .shared-slice-known .given i) }) _ (s .pre .1)
     (part .copy-part .ensures) (fields .put-fields .ensures) (more .put-more-fields .ensures)
 
 pub write-head-spec : {M : Type 1} → statement M
-write-head-spec = tie.close (tie.spec (search needs) (search needs) (search needs) (search needs) returns)
+write-head-spec = tie.close (tie.spec copy-part-requires (search needs) (search needs) (search needs) returns)

@@ -15,7 +15,7 @@ loops-verdict-requires : tie.Need-loops-verdict-requires
 loops-verdict-requires c κs =
     let a = c .before .before .before .before .before in
     let s = a .before .before .before .before .pre in
-    ((s .0, s .1, omega (arith, s .2, a .pairs-verdict .kept .1 .0)), zero _ _ (a .pairs-verdict .ensures .0) (c .before .if1 .left))
+    ((s .0, omega (arith, s .1, a .pairs-verdict .kept .1 .0)), zero _ _ (a .pairs-verdict .ensures .0) (c .before .if1 .left))
 
 returns-2 : tie.Need-returns-2
 unfolding rules15to19

@@ -12,7 +12,7 @@ returns c =
       c .before .before .count-of2 .ensures .0,
       c .before .count-of3 .ensures .0,
       c .count-of4 .ensures .0,
-      c .before .before .before .before .before .pre .2,
+      c .before .before .before .before .before .pre .1,
     )
 
 pub counted-spec : {M : Type 1} → statement M

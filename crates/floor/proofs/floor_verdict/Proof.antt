@@ -6,7 +6,6 @@ use Rattle.verdict.specs.Memory.{workSize, clearedTo}
 use Rattle.verdict.proofs.Memory.{cleared-twice}
 use Rattle.tables.specs.Header.{RightHeader}
 use Rattle.tables.specs.Parts.{partsOf}
-use Rattle.tables.proofs.Right.{header-met}
 use Rattle.floor.specs.Groups.{rules1to19}
 use Rattle.floor.proofs.Order.{stops, goes-on, zero}
 use Rattle.floor.proofs.Meaning.{Shaped, shape-met}
@@ -24,7 +23,7 @@ unfolding rules1to19
 returns c = (stops _ _ _ (c .before .before .header-verdict .ensures) (c .if1 .taken), refl)
 
 shape-verdict-requires : tie.Need-shape-verdict-requires
-shape-verdict-requires c κs = (right c, header-met _ (right c) .long)
+shape-verdict-requires c κs = right c
 
 returns-2 : tie.Need-returns-2
 unfolding rules1to19
@@ -38,7 +37,7 @@ tree-and-borders-requires c κs =
     let s = there .before .before .before .before .before in
     let h = right there in
     let q = shaped (c .before) in
-    ((q .mesh .finite, q .mesh .cornered, q .closed), (h, header-met _ h .long, s .pre))
+    ((q .mesh .finite, q .mesh .cornered, q .closed), (h, s .pre))
 
 returns-3 : tie.Need-returns-3
 unfolding rules1to19

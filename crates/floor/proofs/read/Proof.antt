@@ -26,7 +26,7 @@ right : (c : tie.Else1) → Accepted (now (c .before .before .before .before .be
 right c = accepted-of _ _ (zero _ _ (c .before .before .before .before .read-verdict .ensures .0) (c .if1 .left))
 
 counted-requires : tie.Need-counted-requires
-counted-requires c κs = let a = right c in (a .header, a .long, walkable-is _ a)
+counted-requires c κs = let a = right c in (a .header, walkable-is _ a)
 
 returns-2 : tie.Need-returns-2
 unfolding readerAnswer

@@ -37,11 +37,11 @@ right : (c : tie.Else1) → Accepted (now (lent c .args .bytes)) × (length (fix
 right c = let h = rewrite-passed _ _ _ (passes c) in (accepted-of _ _ (h .0), h .1)
 
 form-length-requires : tie.Need-form-length-requires
-form-length-requires c κs = let a = right c .0 in (a .header, a .long)
+form-length-requires c κs = right c .0 .header
 
 write-form-requires : tie.Need-write-form-requires
 unfolding fixedForm
-write-form-requires c κs = let a = right (c .before .before) in (a .0 .header, a .0 .long, a .1)
+write-form-requires c κs = let a = right (c .before .before) in (a .0 .header, a .1)
 
 returns-2 : tie.Need-returns-2
 unfolding rewriteAnswer rewriteMemory fixedForm

@@ -24,7 +24,7 @@ right : (c : tie.Else1) → Accepted (now (c .before .before .before .before .be
 right c = accepted-of _ _ (zero _ _ (c .before .before .before .before .read-verdict .ensures .0) (c .if1 .left))
 
 form-length-requires : tie.Need-form-length-requires
-form-length-requires c κs = let a = right c in (a .header, a .long)
+form-length-requires c κs = right c .header
 
 -- 40 if the output is shorter than the form
 short : (c : tie.After-first-rule) → let a = c .before .before .before .before .before .before .before .before .before .before .before .args in c .first-rule .result ≡ rule 40 (ltb (length (now (a .out))) (c .before .form-length .result)) 0

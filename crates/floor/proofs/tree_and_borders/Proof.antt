@@ -15,7 +15,7 @@ borders-verdict-requires : tie.Need-borders-verdict-requires
 borders-verdict-requires c κs =
     let a = c .before .before .before .before .before in
     let s = a .before .before .before .before .pre in
-    (s .1 .0, s .1 .1, omega (arith, s .1 .2, a .tree-verdict .kept .1 .0))
+    (s .1 .0, omega (arith, s .1 .1, a .tree-verdict .kept .1 .0))
 
 returns-2 : tie.Need-returns-2
 unfolding rules13to19

@@ -28,44 +28,45 @@ loop-holds c = (search needs, refl, c .before .before .pre .0, refl)
 turn-requires : tie.Need-turn-requires Inv-loop μ-loop
 turn-requires c κs = c .before .before .before .before .loop .inv .2
 
-same-length : tie.Need-same-length Inv-loop μ-loop
-same-length c =
-    let at-turn = c .before .before .before in
-    let at-loop = at-turn .before .before .before .before .before in
-    at-turn .turn .kept .0 ∙ at-loop .loop .inv .1
+-- ---- a turn of the loop, seen behind the call of `turn`
 
--- the record that is laid on
-laid : (c : tie.After-flipped Inv-loop μ-loop) → let a = c .before .before .before .before .before .before .args in c .flipped .result ≡ flip (recordAt (a .journal .now) (size * (c .before .before .before .loop .i - 1)))
-laid c = c .flipped .ensures ∙ ap flip (c .before .get-record .ensures)
+abbrev flipped-of : tie.After-turn Inv-loop μ-loop → tie.After-flipped Inv-loop μ-loop
+flipped-of c = c .before .before
+
+abbrev test-of : tie.After-turn Inv-loop μ-loop → tie.In-loop Inv-loop μ-loop
+test-of c = flipped-of c .before .before
+
+abbrev loop-of : tie.After-turn Inv-loop μ-loop → tie.At-loop Inv-loop μ-loop
+loop-of c = test-of c .before
+
+abbrev start-of : tie.After-turn Inv-loop μ-loop → tie.Start Inv-loop μ-loop
+start-of c = loop-of c .before .before .before
+
+-- the record that is laid on, and what laying it on answers and leaves
+laid : (c : tie.After-turn Inv-loop μ-loop) → flipped-of c .flipped .result ≡ flip (recordAt (start-of c .args .journal .now) (size * (loop-of c .loop .i - 1)))
+laid c = let f = flipped-of c in f .flipped .ensures ∙ ap flip (f .before .get-record .ensures)
+
+same-length : tie.Need-same-length Inv-loop μ-loop
+same-length c = let t = c .before .before .before in t .turn .kept .0 ∙ loop-of t .loop .inv .1
 
 returns : tie.Need-returns Inv-loop μ-loop
 returns c =
-    let at-turn = c .before .before .before in
-    let there = at-turn .before .before in
-    let in-loop = there .before .before in
-    let at-loop = in-loop .before in
-    let start = at-loop .before .before .before in
-    let a = start .args in
-    let q = at-loop .loop in
-    let h = rw (laid there) at (at-turn .turn .ensures) in
-    let f = sym (h .0) ∙ not-true (at-turn .turn .result) (c .if1 .taken) in
-    rw (h .1, f) (sym (unwind-halt areaFloor (a .journal .now) (q .floor) (q .i) (in-loop .loop-test .taken) f) ∙ q .inv .3)
+    let t = c .before .before .before in
+    let q = loop-of t .loop in
+    let h = rw (laid t) at (t .turn .ensures) in
+    let f = sym (h .0) ∙ not-true (t .turn .result) (c .if1 .taken) in
+    rw (h .1, f) (sym (unwind-halt areaFloor (start-of t .args .journal .now) (q .floor) (q .i) (test-of t .loop-test .taken) f) ∙ q .inv .3)
 
 loop-again : tie.Need-loop-again Inv-loop μ-loop
 loop-again c =
-    let at-turn = c .before .before .before in
-    let there = at-turn .before .before in
-    let in-loop = there .before .before in
-    let at-loop = in-loop .before in
-    let start = at-loop .before .before .before in
-    let a = start .args in
-    let q = at-loop .loop in
-    let h = rw (laid there) at (at-turn .turn .ensures) in
-    let f = sym (h .0) ∙ not-false (at-turn .turn .result) (c .if1 .left) in (
+    let t = c .before .before .before in
+    let q = loop-of t .loop in
+    let h = rw (laid t) at (t .turn .ensures) in
+    let f = sym (h .0) ∙ not-false (t .turn .result) (c .if1 .left) in (
       omega arith,
-      at-turn .turn .kept .0 ∙ q .inv .1,
+      t .turn .kept .0 ∙ q .inv .1,
       rw (h .1, f) (lay-right (q .floor) _ (q .inv .2) (fits-inside areaFloor (q .floor) _ f)),
-      rw (h .1, f) (sym (unwind-turn areaFloor (a .journal .now) (q .floor) (q .i) (in-loop .loop-test .taken) f) ∙ q .inv .3),
+      rw (h .1, f) (sym (unwind-turn areaFloor (start-of t .args .journal .now) (q .floor) (q .i) (test-of t .loop-test .taken) f) ∙ q .inv .3),
     )
 
 same-length-2 : tie.Need-same-length-2 Inv-loop μ-loop

@@ -7,18 +7,18 @@ use lib.ListN.{length}
 use Rattle.letters.specs.Class.{isEnd}
 use Rattle.text.proofs.SplitLaws.{piece-within}
 use Rattle.layout.proofs.StepLaws.{slot-inside}
-use Rattle.layout.proofs.ScanLaws.{Standing, standing, kept-rooms, turn-stops, turn-more, ends-early, ends-right}
+use Rattle.layout.proofs.ScanLaws.{Reader, reader, kept-rooms, turn-stops, turn-more, ends-early, ends-right}
 use Rattle.layout.proofs.read_lines.Statement.{statement}
 use Rattle.layout.proofs.read_lines.Tie as tie
 
 abbrev Inv-loop : tie.InvT-loop
-Inv-loop s starts₀ st₀ at₀ passed₀ starts st at passed = Standing s starts st passed at
+Inv-loop s starts₀ st₀ at₀ passed₀ starts st at passed = Reader s starts st passed at
 
 abbrev μ-loop : tie.MeasureT-loop
 μ-loop s starts₀ st₀ at₀ passed₀ starts st at passed = length s - at
 
 loop-holds : tie.Need-loop-holds Inv-loop μ-loop
-loop-holds c = standing _
+loop-holds c = reader _
 
 slice-aggregate-line-fault : tie.Need-slice-aggregate-line-fault Inv-loop μ-loop
 slice-aggregate-line-fault c = let z = c .before .before in sym (z .loop .inv .sized)

@@ -6,22 +6,10 @@ use Rattle.layoutform.proofs.AnswerLaws.{rename-refused, rename-unnamed
 use Rattle.layoutform.proofs.layout_rename.Statement.{statement}
 use Rattle.layoutform.proofs.layout_rename.Tie as tie
 
-read-requires : tie.Need-read-requires
-read-requires c κs = search needs
-
-refused-form-requires : tie.Need-refused-form-requires
-refused-form-requires c κs = search needs
-
 returns : tie.Need-returns
 returns c =
     let r = c .before .before .before in
     rename-refused _ _ (r .read .ensures) _ _ _ _ refl (c .before .if1 .taken) _ (c .refused-form .ensures)
-
-name-verdict-requires : tie.Need-name-verdict-requires
-name-verdict-requires c κs = search needs
-
-refused-form-requires-2 : tie.Need-refused-form-requires-2
-refused-form-requires-2 c κs = search needs
 
 returns-2 : tie.Need-returns-2
 returns-2 c =
@@ -36,9 +24,6 @@ write-form-requires c κs =
     let start = r .before .before .before .before in
     ((answered _ _ (r .read .ensures) .held, rename-name _ _ (r .read .ensures) _ _ (start .args .out .now) _ (at-name-verdict .name-verdict .ensures) (at-if1 .if1 .left) (c .before .if2 .left)), rename-short _ _ (r .read .ensures) _ _ (start .args .out .now) _ (at-name-verdict .name-verdict .ensures) (at-if1 .if1 .left) (c .before .if2 .left))
 
-same-length : tie.Need-same-length
-same-length c = search needs
-
 returns-3 : tie.Need-returns-3
 returns-3 c =
     let at-if2 = c .before .before .before .before in
@@ -51,13 +36,4 @@ returns-3 c =
 pub layout-rename-spec : {M : Type 1} → statement M
 layout-rename-spec =
     tie.close
-    (tie.spec
-    read-requires
-    refused-form-requires
-    returns
-    name-verdict-requires
-    refused-form-requires-2
-    returns-2
-    write-form-requires
-    same-length
-    returns-3)
+    (tie.spec (search needs) (search needs) returns (λ c κs. search needs) (search needs) returns-2 write-form-requires (search needs) returns-3)

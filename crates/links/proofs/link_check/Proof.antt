@@ -29,7 +29,7 @@ right : (c : tie.Else1) → Accepted (now (c .before .before .before .before .be
 right c = accepted-of _ _ (zero _ _ (c .before .before .before .before .read-verdict .ensures .0) (c .if1 .left))
 
 rooms-verdict-requires : tie.Need-rooms-verdict-requires
-rooms-verdict-requires c κs = let a = right (c .before .before .before) in (a .header, a .long)
+rooms-verdict-requires c κs = right (c .before .before .before) .header
 
 returns-3 : tie.Need-returns-3
 returns-3 c =

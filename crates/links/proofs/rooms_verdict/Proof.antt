@@ -8,7 +8,7 @@ use Rattle.links.proofs.rooms_verdict.Statement.{statement}
 use Rattle.links.proofs.rooms_verdict.Tie as tie
 
 first-astray-requires : tie.Need-first-astray-requires
-first-astray-requires c κs = (c .before .before .pre .0, c .count-of .ensures .0)
+first-astray-requires c κs = (c .before .before .pre, c .count-of .ensures .0)
 
 cast : tie.Need-cast-first-rule
 cast c = omega (arith, c .before .count-of .ensures .1, lowest-within _ _ _ (c .first-astray .ensures))

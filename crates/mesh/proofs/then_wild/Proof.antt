@@ -26,13 +26,13 @@ many c = ap (λ (n : ℕ). n * c .before .before .before .args .per) (c .before 
 first-wild-requires : tie.Need-first-wild-requires
 first-wild-requires c κs =
     let s = c .before .before in
-    (s .pre .0, s .pre .2, s .pre .3, s .pre .5, ap (λ (n : ℕ). n * s .args .per) (c .count-of .ensures .0))
+    (s .pre .0, s .pre .1, s .pre .2, s .pre .4, ap (λ (n : ℕ). n * s .args .per) (c .count-of .ensures .0))
 
 place-of-requires : tie.Need-place-of-requires
 place-of-requires c κs =
     let s = c .before .before .before .before in
-    let q = split-in (c .before .first-wild .result) _ (s .args .per) _ (s .pre .3) (s .pre .5) (rw (many (c .before)) at (c .if1 .taken)) in
-    (s .pre .0, s .pre .2, q .0, q .1)
+    let q = split-in (c .before .first-wild .result) _ (s .args .per) _ (s .pre .2) (s .pre .4) (rw (many (c .before)) at (c .if1 .taken)) in
+    (s .pre .0, s .pre .1, q .0, q .1)
 
 returns : tie.Need-returns
 unfolding rule7In

@@ -9,7 +9,7 @@ use Rattle.pairs.proofs.from_of.Tie as tie
 corner-of-requires : tie.Need-corner-of-requires
 corner-of-requires c κs =
     let s = c .before in
-    (s .pre .0, face-in (now (s .args .bytes)) (s .pre .0) (s .args .h) (s .pre .2), omega arith)
+    (s .pre .0, face-in (now (s .args .bytes)) (s .pre .0) (s .args .h) (s .pre .1), omega arith)
 
 returns : tie.Need-returns
 unfolding from

@@ -10,7 +10,7 @@ returns : tie.Need-returns
 returns c =
     let s = c .before .before in
     let e = c .count-of .ensures .0 in
-    (omega (arith, e), omega (arith, e, few-walkable (now (s .args .bytes)) (s .pre .0)))
+    (omega (arith, e), omega (arith, e, few-walkable (now (s .args .bytes)) (s .pre)))
 
 pub halves-of-spec : {M : Type 1} → statement M
 halves-of-spec = tie.close (tie.spec (search needs) (search needs) returns)

@@ -13,7 +13,7 @@ returns : tie.Need-returns
 returns c =
     let s = c .before .before .before .before in
     let b = now (s .args .bytes) in
-    ap (λ (x : ℕ). eqb x none32) (c .adjacent-of .ensures) ∙ border-read (partsOf b) (few-walkable b (s .pre .0)) (s .pre .2) (s .args .h) (search needs)
+    ap (λ (x : ℕ). eqb x none32) (c .adjacent-of .ensures) ∙ border-read (partsOf b) (few-walkable b (s .pre .0)) (s .pre .1) (s .args .h) (search needs)
 
 returns-2 : tie.Need-returns-2
 returns-2 c = border-out _ _ (search needs)

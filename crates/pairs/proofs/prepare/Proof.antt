@@ -6,7 +6,7 @@ use Rattle.pairs.proofs.prepare.Tie as tie
 
 returns : tie.Need-returns
 unfolding Ready
-returns c = (c .pre .2, refl)
+returns c = (c .pre .1, refl)
 
 pub prepare-spec : {M : Type 1} → statement M
 prepare-spec = tie.close (tie.spec returns)

@@ -7,10 +7,7 @@ use denote.Ref.{now}
 use mir.Syntax.{w64}
 use mir.ValLaws.{toZ-ofZ}
 use Rattle.tables.specs.Parts.{partsOf}
-use Rattle.nodes.specs.Nodes.{nodesOf}
-use Rattle.tree.proofs.Sight.{length-cut}
-use Rattle.query.specs.Points.{boxHolds}
-use Rattle.query.proofs.Walks.{no-faces, root-under, all-few, walk-answer}
+use Rattle.query.proofs.Walks.{no-faces, root-under, all-few, few-seen, walk-answer}
 use Rattle.query.proofs.walked.Statement.{statement}
 use Rattle.query.proofs.walked.Tie as tie
 
@@ -26,16 +23,12 @@ some c = omega (arith, c .before .face-count .ensures .0)
 look-requires : tie.Need-look-requires
 look-requires c κs =
     let s = c .before .before .before .before in
-    ((s .pre .0, c .spot-at .ensures .0, root-under _ (s .pre .0) (some (c .before))), all-few _ (s .pre .0) (some (c .before)))
+    ((s .pre .0, c .spot-at .ensures .0, root-under _ (s .pre .0) (some (c .before))), all-few _ (s .pre .0) (some (c .before)) _ (omega arith))
 
 told-requires-2 : tie.Need-told-requires-2
 told-requires-2 c κs =
     let s = c .before .before .before .before .before in
-    let at = c .before .spot-at .result in
-    let p = partsOf (now (s .args .bytes)) in (
-      omega (arith, c .look .ensures .0, length-cut (nodesOf p) (boxHolds p (at .x) (at .y)) 64 0, all-few _ (s .pre .0) (some (c .before .before))),
-      c .before .before .before .face-count .ensures .1,
-    )
+    (few-seen _ (s .pre .0) (some (c .before .before)) _ _ _ _ (omega arith) (c .look .ensures .0), c .before .before .before .face-count .ensures .1)
 
 returns-2 : tie.Need-returns-2
 returns-2 c =

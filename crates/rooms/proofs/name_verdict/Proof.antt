@@ -8,19 +8,10 @@ use Rattle.rooms.proofs.name_verdict.Tie as tie
 returns : tie.Need-returns
 returns c = let g = c .before .before .before in name-21 _ _ (g .pre) _ _ (c .if1 .taken)
 
-is-name-requires : tie.Need-is-name-requires
-is-name-requires c κs = search needs
-
-slice-aggregate-is-known : tie.Need-slice-aggregate-is-known
-slice-aggregate-is-known c = search needs
-
 is-known-requires : tie.Need-is-known-requires
 is-known-requires c κs =
     let g = c .before .before .before .before .before .before .before in
     (rooms-kept _ _ (g .pre), sym (c .before .before .before .is-name .ensures) ∙ c .before .before .if2 .taken)
-
-first-rule-requires : tie.Need-first-rule-requires
-first-rule-requires c κs = search needs
 
 returns-2 : tie.Need-returns-2
 returns-2 c =
@@ -34,11 +25,4 @@ returns-3 c = let g = c .before .before .before .before .before in name-34 _ _ (
 pub name-verdict-spec : {M : Type 1} → statement M
 name-verdict-spec =
     tie.close
-    (tie.spec
-    returns
-    is-name-requires
-    slice-aggregate-is-known
-    is-known-requires
-    first-rule-requires
-    returns-2
-    returns-3)
+    (tie.spec returns (search needs) (λ c. search needs) is-known-requires (search needs) returns-2 returns-3)

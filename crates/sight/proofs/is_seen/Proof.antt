@@ -6,9 +6,6 @@ use borrow.Author.Needs.{needs}
 use Rattle.sight.proofs.is_seen.Statement.{statement}
 use Rattle.sight.proofs.is_seen.Tie as tie
 
-shr-result : tie.Need-shr-result
-shr-result c = search needs
-
 returns : tie.Need-returns
 returns c = unfold sees in refl
 
@@ -16,4 +13,4 @@ returns-2 : tie.Need-returns-2
 returns-2 c = none-past _ _ (c .before .fits .row .fits) (c .if1 .left)
 
 pub is-seen-spec : {M : Type 1} → statement M
-is-seen-spec = tie.close (tie.spec shr-result returns returns-2)
+is-seen-spec = tie.close (tie.spec (search needs) returns returns-2)

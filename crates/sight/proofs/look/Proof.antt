@@ -8,17 +8,8 @@ use borrow.Author.Needs.{needs}
 use Rattle.sight.proofs.look.Statement.{statement}
 use Rattle.sight.proofs.look.Tie as tie
 
-sound-verdict-requires : tie.Need-sound-verdict-requires
-sound-verdict-requires c κs = search needs
-
-refused-sight-requires : tie.Need-refused-sight-requires
-refused-sight-requires c κs = search needs
-
 returns : tie.Need-returns
 returns c = let g = c .before .before .before .before .before .before in c .refused-sight .ensures ∙ unsound _ _ _ (g .pre .0) _ (g .pre .1) (c .before .before .before .sound-verdict .ensures) (c .before .if1 .taken)
-
-slice-aggregate-read-lines : tie.Need-slice-aggregate-read-lines
-slice-aggregate-read-lines c = search needs
 
 read-lines-requires : tie.Need-read-lines-requires
 read-lines-requires c κs = let g = c .before .before .before .before .before .before .before in (sound-length _ (sym (ap (λ (a : Answer). a .number) (c .before .before .before .before .sound-verdict .ensures)) ∙ c .before .before .if1 .left), rooms-kept _ _ (g .pre .0))
@@ -33,10 +24,4 @@ returns-2 c =
 pub look-spec : {M : Type 1} → statement M
 look-spec =
     tie.close
-    (tie.spec
-    sound-verdict-requires
-    refused-sight-requires
-    returns
-    slice-aggregate-read-lines
-    read-lines-requires
-    returns-2)
+    (tie.spec (search needs) (search needs) returns (λ c. search needs) read-lines-requires returns-2)

@@ -8,18 +8,18 @@ use Rattle.letters.specs.Class.{isEnd}
 use Rattle.text.proofs.SplitLaws.{piece-within}
 use Rattle.sight.specs.Code.{keptNames}
 use Rattle.sight.proofs.FindLaws.{names-long}
-use Rattle.sight.proofs.TurnLaws.{Standing, standing, turn-stops, turn-more, ends-early, ends-right}
+use Rattle.sight.proofs.TurnLaws.{Reader, begun, turn-stops, turn-more, ends-early, ends-right}
 use Rattle.sight.proofs.read_lines.Statement.{statement}
 use Rattle.sight.proofs.read_lines.Tie as tie
 
 abbrev Inv-loop : tie.InvT-loop
-Inv-loop layout starts n s rows₀ st₀ at₀ passed₀ rows st at passed = Standing (keptNames layout starts n) s rows st passed at
+Inv-loop layout starts n s rows₀ st₀ at₀ passed₀ rows st at passed = Reader (keptNames layout starts n) s rows st passed at
 
 abbrev μ-loop : tie.MeasureT-loop
 μ-loop layout starts n s rows₀ st₀ at₀ passed₀ rows st at passed = length s - at
 
 loop-holds : tie.Need-loop-holds Inv-loop μ-loop
-loop-holds c = standing _ _
+loop-holds c = begun _ _
 
 turn-requires : tie.Need-turn-requires Inv-loop μ-loop
 turn-requires c κs =

@@ -4,15 +4,6 @@ use borrow.Author.Needs.{needs}
 use Rattle.sight.proofs.sight_row.Statement.{statement}
 use Rattle.sight.proofs.sight_row.Tie as tie
 
-read-requires : tie.Need-read-requires
-read-requires c κs = search needs
-
-mul-row : tie.Need-mul-row
-mul-row c = search needs
-
-array-read-row : tie.Need-array-read-row
-array-read-row c = search needs
-
 returns : tie.Need-returns
 returns c = row-told _ _ _ _ (c .before .before .read .ensures)
 
@@ -20,4 +11,4 @@ returns-2 : tie.Need-returns-2
 returns-2 c = no-row-told _ _ _ _ (c .before .read .ensures) (c .if1 .left)
 
 pub sight-row-spec : {M : Type 1} → statement M
-sight-row-spec = tie.close (tie.spec read-requires mul-row array-read-row returns returns-2)
+sight-row-spec = tie.close (tie.spec (search needs) (search needs) (search needs) returns returns-2)

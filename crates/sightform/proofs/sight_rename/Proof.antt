@@ -12,23 +12,11 @@ use Rattle.sightform.proofs.sight_rename.Tie as tie
 sized : (c : tie.After-read) → length (c .read .result .starts) ≡ 192
 sized c = search needs
 
-read-requires : tie.Need-read-requires
-read-requires c κs = search needs
-
-refused-form-requires : tie.Need-refused-form-requires
-refused-form-requires c κs = search needs
-
 returns : tie.Need-returns
 returns c =
     let at-read = c .before .before .before in
     let start = at-read .before .before .before .before .before in
     rename-unread _ _ _ (at-read .read .ensures) (start .args .out .now) _ _ (c .before .if1 .taken) _ (c .refused-form .ensures)
-
-look-requires : tie.Need-look-requires
-look-requires c κs = search needs
-
-refused-form-requires-2 : tie.Need-refused-form-requires-2
-refused-form-requires-2 c κs = search needs
 
 returns-2 : tie.Need-returns-2
 returns-2 c =
@@ -36,12 +24,6 @@ returns-2 c =
     let at-read = at-look .before .before .before in
     let start = at-read .before .before .before .before .before in
     rename-refused _ _ _ (at-read .read .ensures) (start .args .out .now) _ (at-look .look .ensures) _ _ (c .before .if2 .taken) _ (c .refused-form2 .ensures)
-
-name-verdict-requires : tie.Need-name-verdict-requires
-name-verdict-requires c κs = search needs
-
-refused-form-requires-3 : tie.Need-refused-form-requires-3
-refused-form-requires-3 c κs = search needs
 
 returns-3 : tie.Need-returns-3
 returns-3 c =
@@ -57,9 +39,6 @@ slice-aggregate-write-form c =
     let there = c .before .before .before .before .before .before .before .before .before .before .before .before in
     sym (sized there)
 
-slice-aggregate-write-form-2 : tie.Need-slice-aggregate-write-form-2
-slice-aggregate-write-form-2 c = search needs
-
 write-form-requires : tie.Need-write-form-requires
 write-form-requires c κs =
     let at-if3 = c .before .before .before .before .before in
@@ -69,9 +48,6 @@ write-form-requires c κs =
     let at-read = at-if1 .before .before in
     let start = at-read .before .before .before .before .before in
     ((rows-sized _ _ _ (at-read .read .ensures) (start .args .out .now) _ (at-look .look .ensures), rename-name _ _ (at-read .read .ensures) _ _ (start .args .out .now) _ (at-name-verdict .name-verdict .ensures) (at-if1 .if1 .left) (at-if3 .if3 .left)), rooms-kept _ _ (at-read .read .ensures))
-
-same-length : tie.Need-same-length
-same-length c = search needs
 
 returns-4 : tie.Need-returns-4
 returns-4 c =
@@ -86,18 +62,4 @@ returns-4 c =
 pub sight-rename-spec : {M : Type 1} → statement M
 sight-rename-spec =
     tie.close
-    (tie.spec
-    read-requires
-    refused-form-requires
-    returns
-    look-requires
-    refused-form-requires-2
-    returns-2
-    name-verdict-requires
-    refused-form-requires-3
-    returns-3
-    slice-aggregate-write-form
-    slice-aggregate-write-form-2
-    write-form-requires
-    same-length
-    returns-4)
+    (tie.spec (search needs) (search needs) returns (λ c κs. search needs) (search needs) returns-2 (λ c κs. search needs) (search needs) returns-3 slice-aggregate-write-form (λ c. search needs) write-form-requires (search needs) returns-4)

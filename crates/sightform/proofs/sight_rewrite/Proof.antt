@@ -7,23 +7,11 @@ use borrow.Author.Needs.{needs}
 use Rattle.sightform.proofs.sight_rewrite.Statement.{statement}
 use Rattle.sightform.proofs.sight_rewrite.Tie as tie
 
-read-requires : tie.Need-read-requires
-read-requires c κs = search needs
-
-refused-form-requires : tie.Need-refused-form-requires
-refused-form-requires c κs = search needs
-
 returns : tie.Need-returns
 returns c =
     let at-read = c .before .before .before in
     let start = at-read .before .before .before .before in
     rewrite-unread _ _ _ (at-read .read .ensures) (start .args .out .now) (c .before .if1 .taken) _ (c .refused-form .ensures)
-
-look-requires : tie.Need-look-requires
-look-requires c κs = search needs
-
-refused-form-requires-2 : tie.Need-refused-form-requires-2
-refused-form-requires-2 c κs = search needs
 
 returns-2 : tie.Need-returns-2
 returns-2 c =
@@ -32,24 +20,12 @@ returns-2 c =
     let start = at-read .before .before .before .before in
     rewrite-refused _ _ _ (at-read .read .ensures) (start .args .out .now) _ (at-look .look .ensures) (c .before .if2 .taken) _ (c .refused-form2 .ensures)
 
-slice-aggregate-write-form : tie.Need-slice-aggregate-write-form
-slice-aggregate-write-form c = search needs
-
-slice-aggregate-write-form-2 : tie.Need-slice-aggregate-write-form-2
-slice-aggregate-write-form-2 c = search needs
-
-slice-aggregate-write-form-3 : tie.Need-slice-aggregate-write-form-3
-slice-aggregate-write-form-3 c = search needs
-
 write-form-requires : tie.Need-write-form-requires
 write-form-requires c κs =
     let at-look = c .before .before .before .before .before .before .before .before in
     let at-read = at-look .before .before .before in
     let start = at-read .before .before .before .before in
     ((rows-sized _ _ _ (at-read .read .ensures) (start .args .out .now) _ (at-look .look .ensures), omega arith), rooms-kept _ _ (at-read .read .ensures))
-
-same-length : tie.Need-same-length
-same-length c = search needs
 
 returns-3 : tie.Need-returns-3
 returns-3 c =
@@ -62,16 +38,4 @@ returns-3 c =
 pub sight-rewrite-spec : {M : Type 1} → statement M
 sight-rewrite-spec =
     tie.close
-    (tie.spec
-    read-requires
-    refused-form-requires
-    returns
-    look-requires
-    refused-form-requires-2
-    returns-2
-    slice-aggregate-write-form
-    slice-aggregate-write-form-2
-    slice-aggregate-write-form-3
-    write-form-requires
-    same-length
-    returns-3)
+    (tie.spec (search needs) (search needs) returns (λ c κs. search needs) (search needs) returns-2 (λ c. search needs) (λ c. search needs) (search needs) write-form-requires (search needs) returns-3)

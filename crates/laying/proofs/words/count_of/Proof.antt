@@ -1,22 +1,20 @@
 -- By the tag. Assumes nothing.
 use native.Mathlib.Omega.{arith}
 use mathlib.Core.Path.{refl}
-use denote.Ref.{now}
 use borrow.Author.Tests.{eq-eqb, ne-eqb}
-use Rattle.tables.proofs.Right.{header-met}
 use Rattle.laying.specs.Area.{areaCount}
 use Rattle.laying.proofs.words.count_of.Statement.{statement}
 use Rattle.laying.proofs.words.count_of.Tie as tie
 
 count-of-requires : tie.Need-count-of-requires
-count-of-requires c κs = let s = c .before .before in (header-met (now (s .args .floor)) (s .pre) .long, omega arith)
+count-of-requires c κs = let s = c .before .before in (s .pre, omega arith)
 
 returns : tie.Need-returns
 unfolding areaCount
 returns c = rw (eq-eqb (c .before .before .before .args .tag) 1 (c .before .if1 .taken)) (c .count-of .ensures .0)
 
 count-of-requires-2 : tie.Need-count-of-requires-2
-count-of-requires-2 c κs = let s = c .before .before .before in (header-met (now (s .args .floor)) (s .pre) .long, omega arith)
+count-of-requires-2 c κs = let s = c .before .before .before in (s .pre, omega arith)
 
 returns-2 : tie.Need-returns-2
 unfolding areaCount

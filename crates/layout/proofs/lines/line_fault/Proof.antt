@@ -5,17 +5,8 @@ use borrow.Author.Needs.{needs}
 use Rattle.layout.proofs.lines.line_fault.Statement.{statement}
 use Rattle.layout.proofs.lines.line_fault.Tie as tie
 
-line-at-requires : tie.Need-line-at-requires
-line-at-requires c κs = search needs
-
-word-count-requires : tie.Need-word-count-requires
-word-count-requires c κs = search needs
-
 returns : tie.Need-returns
 returns c = fault-blank _ _ _ _ (c .before .before .line-at .ensures) _ (c .before .word-count .ensures) (c .if1 .taken)
-
-entry-fault-requires : tie.Need-entry-fault-requires
-entry-fault-requires c κs = search needs
 
 returns-2 : tie.Need-returns-2
 unfolding stateOf
@@ -23,15 +14,6 @@ returns-2 c =
     let d = c .before in
     let e = d .before .before in
     fault-entry _ _ _ _ (e .before .before .line-at .ensures) _ (e .before .word-count .ensures) _ (e .if1 .left) (d .if2 .taken) (c .entry-fault .ensures)
-
-word-requires : tie.Need-word-requires
-word-requires c κs = search needs
-
-opened-requires : tie.Need-opened-requires
-opened-requires c κs = search needs
-
-open-fault-requires : tie.Need-open-fault-requires
-open-fault-requires c κs = search needs
 
 returns-3 : tie.Need-returns-3
 unfolding stateOf
@@ -43,13 +25,4 @@ returns-3 c =
 pub line-fault-spec : {M : Type 1} → statement M
 line-fault-spec =
     tie.close
-    (tie.spec
-    line-at-requires
-    word-count-requires
-    returns
-    entry-fault-requires
-    returns-2
-    word-requires
-    opened-requires
-    open-fault-requires
-    returns-3)
+    (tie.spec (search needs) (search needs) returns (λ c κs. search needs) returns-2 (search needs) (search needs) (search needs) returns-3)

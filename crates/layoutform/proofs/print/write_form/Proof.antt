@@ -9,35 +9,11 @@ use borrow.Author.Needs.{needs}
 use Rattle.layoutform.proofs.print.write_form.Statement.{statement}
 use Rattle.layoutform.proofs.print.write_form.Tie as tie
 
-slice-relend-prefix-put-form : tie.Need-slice-relend-prefix-put-form
-slice-relend-prefix-put-form c = search needs
-
-slice-aggregate-put-form : tie.Need-slice-aggregate-put-form
-slice-aggregate-put-form c = search needs
-
-put-form-requires : tie.Need-put-form-requires
-put-form-requires c κs = search needs
-
-refused-form-requires : tie.Need-refused-form-requires
-refused-form-requires c κs = search needs
-
-same-length : tie.Need-same-length
-same-length c = search needs
-
 returns : tie.Need-returns
 returns c =
     let at-put-form = c .before .before .before .before in
     let g = at-put-form .before .before .before .before .before in
     too-short _ (g .args .out .now) _ _ (at-put-form .put-form .ensures) (c .before .if1 .taken) _ (c .refused-form .ensures)
-
-put-form-requires-2 : tie.Need-put-form-requires-2
-put-form-requires-2 c κs = search needs
-
-cast-t14 : tie.Need-cast-t14
-cast-t14 c = search needs
-
-same-length-2 : tie.Need-same-length-2
-same-length-2 c = search needs
 
 -- the form goes to the whole output, behind what the dry run left of its empty start
 written : (c : tie.After-put-form2) → let a = c .before .before .before .before .before .before .before .before .before .before .args in
@@ -55,14 +31,4 @@ returns-2 c =
 pub write-form-spec : {M : Type 1} → statement M
 write-form-spec =
     tie.close
-    (tie.spec
-    slice-relend-prefix-put-form
-    slice-aggregate-put-form
-    put-form-requires
-    refused-form-requires
-    same-length
-    returns
-    put-form-requires-2
-    cast-t14
-    same-length-2
-    returns-2)
+    (tie.spec (search needs) (search needs) (λ c κs. search needs) (search needs) (search needs) returns (λ c κs. search needs) (search needs) (search needs) returns-2)

@@ -21,9 +21,6 @@ abbrev μ-loop : tie.MeasureT-loop
 loop-holds : tie.Need-loop-holds Inv-loop μ-loop
 loop-holds c = (omega arith, lowest-none _)
 
-room-name-requires : tie.Need-room-name-requires Inv-loop μ-loop
-room-name-requires c κs = search needs
-
 same-name-requires : tie.Need-same-name-requires Inv-loop μ-loop
 same-name-requires c κs =
     let g = c .before .before .before .before .before .before in
@@ -35,12 +32,6 @@ returns c =
     let at-loop = in-loop .before in
     let g = at-loop .before .before .before .before in
     find-hit _ _ _ (g .pre .0) _ _ (in-loop .loop-test .taken) (at-loop .loop .inv .1) (find-turn _ _ _ (g .pre .0) _ _ _ _ true (in-loop .loop-test .taken) (c .before .before .room-name .ensures) (c .before .same-name .ensures) (c .if1 .taken))
-
-add-j : tie.Need-add-j Inv-loop μ-loop
-add-j c = search needs
-
-loop-less : tie.Need-loop-less Inv-loop μ-loop
-loop-less c = search needs
 
 loop-again : tie.Need-loop-again Inv-loop μ-loop
 loop-again c =
@@ -55,14 +46,4 @@ returns-2 c = let g = c .before .before .before .before .before in find-none _ _
 pub find-room-spec : {M : Type 1} → statement M
 find-room-spec =
     tie.close
-    (tie.spec
-    Inv-loop
-    μ-loop
-    loop-holds
-    room-name-requires
-    same-name-requires
-    returns
-    add-j
-    loop-less
-    loop-again
-    returns-2)
+    (tie.spec Inv-loop μ-loop loop-holds (search needs) same-name-requires returns (search needs) (search needs) loop-again returns-2)

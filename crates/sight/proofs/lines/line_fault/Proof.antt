@@ -7,20 +7,11 @@ use borrow.Author.Needs.{needs}
 use Rattle.sight.proofs.lines.line_fault.Statement.{statement}
 use Rattle.sight.proofs.lines.line_fault.Tie as tie
 
-word-count-requires : tie.Need-word-count-requires
-word-count-requires c κs = search needs
-
 returns : tie.Need-returns
 returns c = line-blank _ _ _ _ _ (sym (c .before .word-count .ensures) ∙ c .if1 .taken)
 
-seen-fault-requires : tie.Need-seen-fault-requires
-seen-fault-requires c κs = search needs
-
 returns-2 : tie.Need-returns-2
 returns-2 c = c .seen-fault .ensures ∙ line-seen _ _ _ _ _ (λ e. c .before .before .before .if1 .left (c .before .before .before .before .word-count .ensures ∙ e)) (c .before .if2 .taken)
-
-observer-fault-requires : tie.Need-observer-fault-requires
-observer-fault-requires c κs = search needs
 
 -- an observer's line is asked about the observers so far
 by-observers : (c : tie.After-observer-fault) → let a = c .before .before .before .before .before .before .args in c .observer-fault .result ≡ observerFault (a .n) (a .st .told) (a .room) (words (a .l .now))
@@ -32,10 +23,4 @@ returns-3 c = by-observers c ∙ line-observer _ _ _ _ _ (λ e. c .before .befor
 pub line-fault-spec : {M : Type 1} → statement M
 line-fault-spec =
     tie.close
-    (tie.spec
-    word-count-requires
-    returns
-    seen-fault-requires
-    returns-2
-    observer-fault-requires
-    returns-3)
+    (tie.spec (search needs) returns (search needs) returns-2 (search needs) returns-3)

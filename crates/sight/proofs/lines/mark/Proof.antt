@@ -6,29 +6,14 @@ use borrow.Author.Needs.{needs}
 use Rattle.sight.proofs.lines.mark.Statement.{statement}
 use Rattle.sight.proofs.lines.mark.Tie as tie
 
-word-count-requires : tie.Need-word-count-requires
-word-count-requires c κs = search needs
-
 returns : tie.Need-returns
 returns c = rows-blank _ _ _ _ (sym (c .before .word-count .ensures) ∙ c .if1 .taken)
 
 returns-2 : tie.Need-returns-2
 returns-2 c = rows-kept _ _ _ _ (λ e. c .before .before .if1 .left (c .before .before .before .word-count .ensures ∙ e)) (c .if2 .taken)
 
-mul-with-mark : tie.Need-mul-with-mark
-mul-with-mark c = search needs
-
-element-copy-out-with-mark : tie.Need-element-copy-out-with-mark
-element-copy-out-with-mark c = search needs
-
 with-mark-requires : tie.Need-with-mark-requires
 with-mark-requires c κs = c .before .before .before .before .before .before .pre .1 (omega (arith, c .before .before .before .before .word-count .ensures, c .before .before .before .if1 .left)) (omega (arith, c .before .if2 .left))
-
-mul-rows : tie.Need-mul-rows
-mul-rows c = search needs
-
-element-write-rows : tie.Need-element-write-rows
-element-write-rows c = search needs
 
 returns-3 : tie.Need-returns-3
 returns-3 c = rows-marked _ _ _ _ _ (λ e. c .before .before .before .before .if1 .left (c .before .before .before .before .before .word-count .ensures ∙ e)) (c .before .before .if2 .left) (c .with-mark .ensures)
@@ -36,13 +21,4 @@ returns-3 c = rows-marked _ _ _ _ _ (λ e. c .before .before .before .before .if
 pub mark-spec : {M : Type 1} → statement M
 mark-spec =
     tie.close
-    (tie.spec
-    word-count-requires
-    returns
-    returns-2
-    mul-with-mark
-    element-copy-out-with-mark
-    with-mark-requires
-    mul-rows
-    element-write-rows
-    returns-3)
+    (tie.spec (search needs) returns returns-2 (search needs) (search needs) with-mark-requires (search needs) (search needs) returns-3)

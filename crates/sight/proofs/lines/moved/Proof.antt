@@ -7,20 +7,11 @@ use borrow.Author.Needs.{needs}
 use Rattle.sight.proofs.lines.moved.Statement.{statement}
 use Rattle.sight.proofs.lines.moved.Tie as tie
 
-word-count-requires : tie.Need-word-count-requires
-word-count-requires c κs = search needs
-
 returns : tie.Need-returns
 returns c = moved-blank _ _ _ (sym (c .before .word-count .ensures) ∙ c .if1 .taken)
 
-sub-t8 : tie.Need-sub-t8
-sub-t8 c = search needs
-
 returns-2 : tie.Need-returns-2
 returns-2 c = moved-seen _ _ _ (λ e. c .before .before .before .if1 .left (c .before .before .before .before .word-count .ensures ∙ e)) (c .before .if2 .taken)
-
-word-requires : tie.Need-word-requires
-word-requires c κs = search needs
 
 count-of-requires : tie.Need-count-of-requires
 count-of-requires c κs = ap isCount (c .word .ensures) ∙ c .before .before .before .before .before .before .pre (omega (arith, c .before .before .before .before .word-count .ensures, c .before .before .before .if1 .left)) (omega (arith, c .before .if2 .left)) .0
@@ -34,12 +25,4 @@ returns-3 c = moved-observer _ _ _ _ _ _ (λ e. c .before .before .before .befor
 pub moved-spec : {M : Type 1} → statement M
 moved-spec =
     tie.close
-    (tie.spec
-    word-count-requires
-    returns
-    sub-t8
-    returns-2
-    word-requires
-    count-of-requires
-    with-mark-requires
-    returns-3)
+    (tie.spec (search needs) returns (search needs) returns-2 (search needs) count-of-requires with-mark-requires returns-3)

@@ -7,26 +7,8 @@ use borrow.Author.Needs.{needs}
 use Rattle.sight.proofs.lines.observer_fault.Statement.{statement}
 use Rattle.sight.proofs.lines.observer_fault.Tie as tie
 
-word-count-requires : tie.Need-word-count-requires
-word-count-requires c κs = search needs
-
 returns : tie.Need-returns
 returns c = observer-33 _ _ _ _ (λ e. c .if1 .taken (c .before .word-count .ensures ∙ e))
-
-word-requires : tie.Need-word-requires
-word-requires c κs = search needs
-
-is-name-requires : tie.Need-is-name-requires
-is-name-requires c κs = search needs
-
-word-requires-2 : tie.Need-word-requires-2
-word-requires-2 c κs = search needs
-
-is-count-requires : tie.Need-is-count-requires
-is-count-requires c κs = search needs
-
-room-fault-requires : tie.Need-room-fault-requires
-room-fault-requires c κs = search needs
 
 returns-2 : tie.Need-returns-2
 returns-2 c =
@@ -47,14 +29,4 @@ returns-4 c = observer-34 _ _ _ _ (sym (c .before .before .before .before .word-
 pub observer-fault-spec : {M : Type 1} → statement M
 observer-fault-spec =
     tie.close
-    (tie.spec
-    word-count-requires
-    returns
-    word-requires
-    is-name-requires
-    word-requires-2
-    is-count-requires
-    room-fault-requires
-    returns-2
-    returns-3
-    returns-4)
+    (tie.spec (search needs) returns (search needs) (search needs) (search needs) (search needs) (search needs) returns-2 returns-3 returns-4)

@@ -6,9 +6,6 @@ use borrow.Author.Needs.{needs}
 use Rattle.sight.proofs.lines.room_fault.Statement.{statement}
 use Rattle.sight.proofs.lines.room_fault.Tie as tie
 
-is-seen-requires : tie.Need-is-seen-requires
-is-seen-requires c κs = search needs
-
 returns : tie.Need-returns
 returns c = room-37 _ _ _ (sym (c .before .is-seen .ensures) ∙ c .if1 .taken)
 
@@ -19,4 +16,4 @@ returns-3 : tie.Need-returns-3
 returns-3 c = room-right _ _ _ (sym (c .before .before .is-seen .ensures) ∙ c .before .if1 .left) (λ e. omega (arith, c .if2 .left))
 
 pub room-fault-spec : {M : Type 1} → statement M
-room-fault-spec = tie.close (tie.spec is-seen-requires returns returns-2 returns-3)
+room-fault-spec = tie.close (tie.spec (search needs) returns returns-2 returns-3)

@@ -6,20 +6,8 @@ use borrow.Author.Needs.{needs}
 use Rattle.sight.proofs.lines.seen_fault.Statement.{statement}
 use Rattle.sight.proofs.lines.seen_fault.Tie as tie
 
-word-count-requires : tie.Need-word-count-requires
-word-count-requires c κs = search needs
-
 returns : tie.Need-returns
 returns c = seen-33 _ _ _ _ (λ e. c .if1 .taken (c .before .word-count .ensures ∙ e))
-
-word-requires : tie.Need-word-requires
-word-requires c κs = search needs
-
-is-name-requires : tie.Need-is-name-requires
-is-name-requires c κs = search needs
-
-room-fault-requires : tie.Need-room-fault-requires
-room-fault-requires c κs = search needs
 
 returns-2 : tie.Need-returns-2
 returns-2 c = c .room-fault .ensures ∙ seen-room _ _ _ _ (sym (c .before .before .before .before .before .word-count .ensures) ∙ c .before .before .before .before .if1 .left) (ap isName (sym (c .before .before .before .word .ensures)) ∙ sym (c .before .before .is-name .ensures) ∙ c .before .if2 .taken)
@@ -30,11 +18,4 @@ returns-3 c = seen-34 _ _ _ _ (sym (c .before .before .before .before .word-coun
 pub seen-fault-spec : {M : Type 1} → statement M
 seen-fault-spec =
     tie.close
-    (tie.spec
-    word-count-requires
-    returns
-    word-requires
-    is-name-requires
-    room-fault-requires
-    returns-2
-    returns-3)
+    (tie.spec (search needs) returns (search needs) (search needs) (search needs) returns-2 returns-3)

@@ -4,9 +4,6 @@ use borrow.Author.Needs.{needs}
 use Rattle.sight.proofs.lines.with_mark.Statement.{statement}
 use Rattle.sight.proofs.lines.with_mark.Tie as tie
 
-shl-result : tie.Need-shl-result
-shl-result c = search needs
-
 add-result : tie.Need-add-result
 add-result c = record { fits = rw (shifted (c .args .row) (c .args .j) (c .pre .0)) (mark-fits _ _ 64 (c .pre .0) (c .fits .row .fits) (c .pre .1)) }
 
@@ -14,4 +11,4 @@ returns : tie.Need-returns
 returns c = shifted (c .args .row) (c .args .j) (c .pre .0)
 
 pub with-mark-spec : {M : Type 1} → statement M
-with-mark-spec = tie.close (tie.spec shl-result add-result returns)
+with-mark-spec = tie.close (tie.spec (search needs) add-result returns)

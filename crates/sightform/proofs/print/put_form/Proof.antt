@@ -21,9 +21,6 @@ abbrev μ-loop : tie.MeasureT-loop
 loop-holds : tie.Need-loop-holds Inv-loop μ-loop
 loop-holds c = let g = c .before .before .before .before .before in record { few = omega arith; bound = omega arith; wrote = rooms-start _ _ _ _ _ (g .pre .1) _ _ }
 
-mul-put-room : tie.Need-mul-put-room Inv-loop μ-loop
-mul-put-room c = search needs
-
 shared-slice-read-put-room : tie.Need-shared-slice-read-put-room Inv-loop μ-loop
 shared-slice-read-put-room c =
     let start = c .before .before .before .before .before .before .before .before .before in
@@ -34,12 +31,6 @@ put-room-requires c κs =
     let at-loop = c .before .before .before in
     let g = at-loop .before .before .before .before .before .before in
     ((omega (arith, at-loop .loop .inv .bound, c .before .before .loop-test .taken, g .pre .1 .few), (g .pre .0 .1, c .before .before .loop-test .taken)), g .pre .1)
-
-add-k : tie.Need-add-k Inv-loop μ-loop
-add-k c = search needs
-
-loop-less : tie.Need-loop-less Inv-loop μ-loop
-loop-less c = search needs
 
 loop-again : tie.Need-loop-again Inv-loop μ-loop
 loop-again c =
@@ -63,15 +54,4 @@ returns c =
 pub put-form-spec : {M : Type 1} → statement M
 put-form-spec =
     tie.close
-    (tie.spec
-    Inv-loop
-    μ-loop
-    loop-holds
-    mul-put-room
-    shared-slice-read-put-room
-    put-room-requires
-    add-k
-    loop-less
-    loop-again
-    same-length
-    returns)
+    (tie.spec Inv-loop μ-loop loop-holds (search needs) shared-slice-read-put-room put-room-requires (search needs) (search needs) loop-again same-length returns)

@@ -5,15 +5,6 @@ use borrow.Author.Needs.{needs}
 use Rattle.sightform.proofs.print.put_if_seen.Statement.{statement}
 use Rattle.sightform.proofs.print.put_if_seen.Tie as tie
 
-is-seen-requires : tie.Need-is-seen-requires
-is-seen-requires c κs = search needs
-
-put-line-requires : tie.Need-put-line-requires
-put-line-requires c κs = search needs
-
-same-length : tie.Need-same-length
-same-length c = search needs
-
 returns : tie.Need-returns
 returns c = line-seen _ _ (sym (c .before .before .before .before .before .is-seen .ensures) ∙ c .before .before .before .before .if1 .taken) (c .before .before .put-line .ensures)
 
@@ -22,4 +13,4 @@ returns-2 c = line-unseen _ _ (sym (c .before .is-seen .ensures) ∙ c .if1 .lef
 
 pub put-if-seen-spec : {M : Type 1} → statement M
 put-if-seen-spec =
-    tie.close (tie.spec is-seen-requires put-line-requires same-length returns returns-2)
+    tie.close (tie.spec (search needs) (search needs) (search needs) returns returns-2)

@@ -6,15 +6,6 @@ use borrow.Author.Needs.{needs}
 use Rattle.sightform.proofs.print.put_line.Statement.{statement}
 use Rattle.sightform.proofs.print.put_line.Tie as tie
 
-put-byte-requires : tie.Need-put-byte-requires
-put-byte-requires c κs = search needs
-
-put-byte-requires-2 : tie.Need-put-byte-requires-2
-put-byte-requires-2 c κs = search needs
-
-put-name-requires : tie.Need-put-name-requires
-put-name-requires c κs = search needs
-
 put-byte-requires-3 : tie.Need-put-byte-requires-3
 put-byte-requires-3 c κs =
     let at-put-name = c .before .before .before in
@@ -22,9 +13,6 @@ put-byte-requires-3 c κs =
     let at-put-byte = at-put-byte2 .before .before .before .before in
     let g = at-put-byte .before .before .before .before .before .before in
     omega (arith, at-put-name .put-name .ensures .next, shown-short (g .args .layout .now) (g .args .starts .now) (g .args .i) (g .args .name .now) (g .args .j) (g .pre .1 .0) (g .pre .1 .1), at-put-byte2 .put-byte2 .ensures .next, at-put-byte .put-byte .ensures .next, g .pre .0)
-
-same-length : tie.Need-same-length
-same-length c = search needs
 
 returns : tie.Need-returns
 returns c =
@@ -36,10 +24,4 @@ returns c =
 pub put-line-spec : {M : Type 1} → statement M
 put-line-spec =
     tie.close
-    (tie.spec
-    put-byte-requires
-    put-byte-requires-2
-    put-name-requires
-    put-byte-requires-3
-    same-length
-    returns)
+    (tie.spec (search needs) (search needs) (search needs) put-byte-requires-3 (search needs) returns)

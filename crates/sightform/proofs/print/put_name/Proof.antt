@@ -8,25 +8,13 @@ use borrow.Author.Needs.{needs}
 use Rattle.sightform.proofs.print.put_name.Statement.{statement}
 use Rattle.sightform.proofs.print.put_name.Tie as tie
 
-put-lowered-requires : tie.Need-put-lowered-requires
-put-lowered-requires c κs = search needs
-
-same-length : tie.Need-same-length
-same-length c = search needs
-
 returns : tie.Need-returns
 returns c = wrote-is _ (c .before .before .put-lowered .ensures) (shown-typed _ _ _ _ _ (c .before .before .before .before .if1 .taken))
-
-room-name-requires : tie.Need-room-name-requires
-room-name-requires c κs = search needs
 
 put-lowered-requires-2 : tie.Need-put-lowered-requires-2
 put-lowered-requires-2 c κs =
     let start = c .before .before .before .before .before .before .before in
     omega (arith, ap length (c .room-name .ensures), start .pre .0, start .pre .1 .1)
-
-same-length-2 : tie.Need-same-length-2
-same-length-2 c = search needs
 
 returns-2 : tie.Need-returns-2
 returns-2 c = wrote-is _ (c .before .before .put-lowered2 .ensures) (shown-own _ _ _ _ _ _ (c .before .before .before .before .before .if1 .left) (c .before .before .before .room-name .ensures))
@@ -34,11 +22,4 @@ returns-2 c = wrote-is _ (c .before .before .put-lowered2 .ensures) (shown-own _
 pub put-name-spec : {M : Type 1} → statement M
 put-name-spec =
     tie.close
-    (tie.spec
-    put-lowered-requires
-    same-length
-    returns
-    room-name-requires
-    put-lowered-requires-2
-    same-length-2
-    returns-2)
+    (tie.spec (search needs) (search needs) returns (search needs) put-lowered-requires-2 (search needs) returns-2)

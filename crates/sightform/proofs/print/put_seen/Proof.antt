@@ -27,12 +27,6 @@ put-if-seen-requires c κs =
     let g = c .before .before .before .before .before .before .before in
     (omega (arith, c .before .before .loop .inv .bound, c .before .loop-test .taken, g .pre .0, g .pre .1 .1 .few), (g .pre .1 .0, kept-short _ _ _ (g .pre .1 .1) _ (c .before .loop-test .taken)))
 
-add-j : tie.Need-add-j Inv-loop μ-loop
-add-j c = search needs
-
-loop-less : tie.Need-loop-less Inv-loop μ-loop
-loop-less c = search needs
-
 loop-again : tie.Need-loop-again Inv-loop μ-loop
 loop-again c =
     let in-loop = c .before .before .before .before in
@@ -55,13 +49,4 @@ returns c = (seen-done _ _ _ _ (omega (arith, c .before .loop .inv .few, c .loop
 pub put-seen-spec : {M : Type 1} → statement M
 put-seen-spec =
     tie.close
-    (tie.spec
-    Inv-loop
-    μ-loop
-    loop-holds
-    put-if-seen-requires
-    add-j
-    loop-less
-    loop-again
-    same-length
-    returns)
+    (tie.spec Inv-loop μ-loop loop-holds put-if-seen-requires (search needs) (search needs) loop-again same-length returns)
