@@ -1,6 +1,6 @@
 -- The entries that the code keeps by their starts: how many, which, and the state behind a line. Assumes nothing.
 use mathlib.Core.Path.{_≡_, refl, sym, ap, _∙_}
-use mathlib.Core.Bool.{Bool, true, false, not, _&&_}
+use mathlib.Core.Bool.{Bool, true, false, cond, not, _&&_}
 use mathlib.Core.List.{List, [], _∷_}
 use Prim.Native.Nat.{ℕ, _+_, _-_, _≤_, _<_}
 use native.Mathlib.Omega.{arith}
@@ -82,21 +82,10 @@ known-all w names h =
 -- ---- the code's state behind a line
 
 module _ (c : Progress) where
-  pub entered-room : c .sect ≡ 2 → _≡_ {A = Progress} (record { sect = c .sect; left = c .left - 1; rooms = c .rooms + 1; tracks = c .tracks; obstacles = c .obstacles }) (entered c)
+  pub entered-by : (rooms tracks obstacles : ℕ) → rooms ≡ cond (eqb (c .sect) 2) (c .rooms + 1) (c .rooms) → tracks ≡ cond (eqb (c .sect) 3) (c .tracks + 1) (c .tracks) → obstacles ≡ cond (eqb (c .sect) 4) (c .obstacles + 1) (c .obstacles)
+      → _≡_ {A = Progress} (record { sect = c .sect; left = c .left - 1; rooms = rooms; tracks = tracks; obstacles = obstacles }) (entered c)
   unfolding entered
-  entered-room e = rw (eq-eqb (c .sect) 2 e, ne-eqb (c .sect) 3 (λ z. omega arith), ne-eqb (c .sect) 4 (λ z. omega arith))
-
-  pub entered-track : c .sect ≡ 3 → _≡_ {A = Progress} (record { sect = c .sect; left = c .left - 1; rooms = c .rooms; tracks = c .tracks + 1; obstacles = c .obstacles }) (entered c)
-  unfolding entered
-  entered-track e = rw (eq-eqb (c .sect) 3 e, ne-eqb (c .sect) 2 (λ z. omega arith), ne-eqb (c .sect) 4 (λ z. omega arith))
-
-  pub entered-obstacle : c .sect ≡ 4 → _≡_ {A = Progress} (record { sect = c .sect; left = c .left - 1; rooms = c .rooms; tracks = c .tracks; obstacles = c .obstacles + 1 }) (entered c)
-  unfolding entered
-  entered-obstacle e = rw (eq-eqb (c .sect) 4 e, ne-eqb (c .sect) 2 (λ z. omega arith), ne-eqb (c .sect) 3 (λ z. omega arith))
-
-  pub entered-other : (c .sect ≡ 2 → ⊥) → (c .sect ≡ 3 → ⊥) → (c .sect ≡ 4 → ⊥) → _≡_ {A = Progress} (record { sect = c .sect; left = c .left - 1; rooms = c .rooms; tracks = c .tracks; obstacles = c .obstacles }) (entered c)
-  unfolding entered
-  entered-other a b d = rw (ne-eqb (c .sect) 2 a, ne-eqb (c .sect) 3 b, ne-eqb (c .sect) 4 d)
+  entered-by rooms tracks obstacles r t o = rw (r, t, o)
 
   pub moved-blank : (ws : Line) → length ws ≡ 0 → c ≡ movedTo c ws
   unfolding movedTo

@@ -16,10 +16,10 @@ use Rattle.layout.specs.declared.Progress.{Progress}
 use Rattle.layout.specs.declared.Layout.{Layout}
 use Rattle.layout.specs.Grammar.{nothing, State, start, Reading, stopped, fault, finish, layoutGrammar}
 use Rattle.layout.specs.Layout.{grammar}
-use Rattle.layout.specs.Starts.{entryAt, held, stateOf, movedTo, slotOf, kept, startsFrom, noStarts, begun, startsOf, noLayout, KeptEntries, Held, Found}
+use Rattle.layout.specs.Starts.{entryAt, held, Few, stateOf, movedTo, slotOf, kept, startsFrom, noStarts, begun, startsOf, noLayout, KeptEntries, Held, Found}
 use Rattle.layout.proofs.GoodLaws.{Good, good-start, good-next}
 use Rattle.layout.proofs.HeldLaws.{kept-entries}
-use Rattle.layout.proofs.StepLaws.{Fits, step}
+use Rattle.layout.proofs.StepLaws.{step}
 
 finish-early : (st : State) (n : ℕ) → (st .sect ≡ 6 → ⊥) → finish st n ≡ stopped 38 n
 unfolding finish
@@ -51,7 +51,7 @@ found-stopped : (s : List ℕ) (r : Layout) (found : Reading) (f n : ℕ) → fo
 unfolding noLayout
 found-stopped s r found f n e z q = rw (e, q) (record { verdict = refl; held = held-nothing s f n; starts = rw (ne-eqb f 0 z) })
 
-found-right : (s : List ℕ) (starts : List ℕ) (c : Progress) (r : Layout) (found : Reading) → found ≡ record { verdict = accepted; typed = stateOf s starts c .typed } → startsOf s ≡ starts → Fits c → r .number ≡ 0 → r .place ≡ 0 → r .rooms ≡ c .rooms → r .tracks ≡ c .tracks → r .obstacles ≡ c .obstacles → r .starts ≡ starts → Found s r found
+found-right : (s : List ℕ) (starts : List ℕ) (c : Progress) (r : Layout) (found : Reading) → found ≡ record { verdict = accepted; typed = stateOf s starts c .typed } → startsOf s ≡ starts → Few c → r .number ≡ 0 → r .place ≡ 0 → r .rooms ≡ c .rooms → r .tracks ≡ c .tracks → r .obstacles ≡ c .obstacles → r .starts ≡ starts → Found s r found
 unfolding stateOf
 found-right s starts c r found e k f n p x y z q = rw e (record {
   starts = q ∙ sym k;
@@ -60,9 +60,9 @@ found-right s starts c r found e k f n p x y z q = rw e (record {
     rooms = rw (x, q);
     tracks = rw (y, q);
     obstacles = rw (z, q);
-    few-rooms = omega (arith, f);
-    few-tracks = omega (arith, f);
-    few-obstacles = omega (arith, f);
+    few-rooms = omega (arith, f .rooms);
+    few-tracks = omega (arith, f .tracks);
+    few-obstacles = omega (arith, f .obstacles);
   };
 })
 
@@ -100,7 +100,7 @@ starts-done s starts c at i h = i ∙ rw (line-none s at h) (unfold startsFrom i
 
 -- where the reader stands: what is left of the lines, of the grammar and of the starts; and what it keeps stands for a good state
 pub record Reader (s starts : List ℕ) (c : Progress) (passed at : ℕ) : Type 0 where
-  pub fits : Fits c
+  pub fits : Few c
   pub good : Good (stateOf s starts c)
   pub sized : length starts ≡ 192
   pub stands : Standing layoutGrammar s (grammar s) (stateOf s starts c) passed at
@@ -110,7 +110,7 @@ pub record Reader (s starts : List ℕ) (c : Progress) (passed at : ℕ) : Type 
 pub reader : (s : List ℕ) → Reader s noStarts begun 0 0
 unfolding grammar
 reader s = record {
-  fits = (omega arith, (omega arith, omega arith));
+  fits = record { rooms = omega arith; tracks = omega arith; obstacles = omega arith };
   good = rw (start-state s noStarts) good-start;
   sized = length-replicate {A = ℕ} 192 0;
   stands = rw (start-state s noStarts) (standing layoutGrammar s start);
@@ -149,4 +149,4 @@ module _ (s starts : List ℕ) (c : Progress) (n at : ℕ) (inv : Reader s start
 -- the rooms so far are kept
 pub kept-rooms : (s starts : List ℕ) (c : Progress) (n at : ℕ) → Reader s starts c n at → KeptEntries s starts (c .rooms)
 unfolding stateOf
-kept-rooms s starts c n at inv = kept-entries s starts (c .rooms) (inv .fits .0) (omega (arith, inv .fits, inv .sized)) (inv .good .rooms)
+kept-rooms s starts c n at inv = kept-entries s starts (c .rooms) (inv .fits .rooms) (omega (arith, inv .fits .rooms, inv .sized)) (inv .good .rooms)

@@ -17,7 +17,7 @@ use Rattle.number.specs.Count.{value, isCount}
 use Rattle.layout.specs.declared.Progress.{Progress}
 use Rattle.text.specs.Reading.{Word, Line, nth}
 use Rattle.layout.specs.Grammar.{withEntry, opens, wordsOf, openFault, fault, next}
-use Rattle.layout.specs.Starts.{entryAt, held, trackStarts, obstacleStarts, stateOf, countIn, entered, movedTo, slotOf, kept}
+use Rattle.layout.specs.Starts.{entryAt, held, Few, trackStarts, obstacleStarts, stateOf, countIn, entered, movedTo, slotOf, kept}
 use Rattle.layout.proofs.GoodLaws.{Good, open-words, open-count, count-right}
 use Rattle.layout.proofs.HeldLaws.{held-long, slot-room, slot-track, slot-obstacle}
 
@@ -47,10 +47,6 @@ column s starts at k sect p from n h own side =
 
 -- ---- where an entry's start is kept
 
--- at most 64 of a kind
-abbrev pub Fits : Progress → Type 0
-Fits c = (c .rooms ≤ 64) × ((c .tracks ≤ 64) × (c .obstacles ≤ 64))
-
 record Spot (c : Progress) (p : ℕ) : Type 0 where
   own2 : c .sect ≡ 2 → (p ≡ 0 + c .rooms) × (c .rooms < 64)
   own3 : c .sect ≡ 3 → (p ≡ 64 + c .tracks) × (c .tracks < 64)
@@ -60,7 +56,7 @@ record Spot (c : Progress) (p : ℕ) : Type 0 where
   side4 : (p < 128) ⊎ (128 + c .obstacles ≤ p)
   inside : p < 192
 
-module _ (c : Progress) (f : Fits c) (some : 0 < c .left) (kind : (2 ≤ c .sect) × (c .sect ≤ 4)) (h2 : c .sect ≡ 2 → c .rooms + c .left ≤ 64) (h3 : c .sect ≡ 3 → c .tracks + c .left ≤ 64) (h4 : c .sect ≡ 4 → c .obstacles + c .left ≤ 64) where
+module _ (c : Progress) (f : Few c) (some : 0 < c .left) (kind : (2 ≤ c .sect) × (c .sect ≤ 4)) (h2 : c .sect ≡ 2 → c .rooms + c .left ≤ 64) (h3 : c .sect ≡ 3 → c .tracks + c .left ≤ 64) (h4 : c .sect ≡ 4 → c .obstacles + c .left ≤ 64) where
   spot : Spot c (slotOf c)
   spot =
       decided (ℕ-discrete (c .sect) 2)
@@ -80,7 +76,7 @@ module _ (c : Progress) (f : Fits c) (some : 0 < c .left) (kind : (2 ≤ c .sect
       let m : c .obstacles + c .left ≤ 64 = h4 four in
       record { own2 = λ q. absurd (n q); own3 = λ q. absurd (d q); own4 = λ q. (omega arith, omega arith); side2 = inr (omega arith); side3 = inr (omega arith); side4 = inr (omega arith); inside = omega arith }))
 
-module _ (s starts : List ℕ) (c : Progress) (sized : length starts ≡ 192) (f : Fits c) (g : Good (stateOf s starts c)) where
+module _ (s starts : List ℕ) (c : Progress) (sized : length starts ≡ 192) (f : Few c) (g : Good (stateOf s starts c)) where
   kept-spot : 0 < c .left → Spot c (slotOf c)
   unfolding stateOf
   kept-spot h =
@@ -115,11 +111,15 @@ module _ (s starts : List ℕ) (c : Progress) (sized : length starts ≡ 192) (f
         column s starts at 4 (c .sect) (slotOf c) 128 (c .obstacles) (omega arith) (q .own4) (q .side4),
       )
 
-  entry-fits : 0 < c .left → Fits (entered c)
+  entry-fits : 0 < c .left → Few (entered c)
   unfolding entered
   entry-fits h =
       let q = kept-spot h in
-      (at-most 2 (c .rooms) (f .0) (λ e. q .own2 e .1), (at-most 3 (c .tracks) (f .1 .0) (λ e. q .own3 e .1), at-most 4 (c .obstacles) (f .1 .1) (λ e. q .own4 e .1)))
+      record {
+        rooms = at-most 2 (c .rooms) (f .rooms) (λ e. q .own2 e .1);
+        tracks = at-most 3 (c .tracks) (f .tracks) (λ e. q .own3 e .1);
+        obstacles = at-most 4 (c .obstacles) (f .obstacles) (λ e. q .own4 e .1);
+      }
     where
       at-most : (k n : ℕ) → n ≤ 64 → (c .sect ≡ k → n < 64) → cond (eqb (c .sect) k) (n + 1) n ≤ 64
       at-most k n l m = test (eqb (c .sect) k) (λ (e : eqb (c .sect) k ≡ true). rw e (omega (arith, m (eqb-true (c .sect) k e)))) (λ (e : eqb (c .sect) k ≡ false). rw e l)
@@ -139,10 +139,10 @@ count-said k l e =
 
 -- ---- the law: the code's state behind a line is the grammar's next one
 
-module _ (s starts : List ℕ) (c : Progress) (at : ℕ) (sized : length starts ≡ 192) (f : Fits c) (g : Good (stateOf s starts c)) where
+module _ (s starts : List ℕ) (c : Progress) (at : ℕ) (sized : length starts ≡ 192) (f : Few c) (g : Good (stateOf s starts c)) where
   -- what is to be shown of a line
   abbrev Steps : Line → Type 0
-  Steps l = (stateOf s (kept starts c at) (movedTo c l) ≡ next (stateOf s starts c) l) × Fits (movedTo c l)
+  Steps l = (stateOf s (kept starts c at) (movedTo c l) ≡ next (stateOf s starts c) l) × Few (movedTo c l)
 
   by-entry : (w : Word) (ws : Line) → (w ∷ ws) ≡ entryAt s at → ltb 0 (c .left) ≡ true → Steps (w ∷ ws)
   by-entry w ws q h = (same, fits)
@@ -150,7 +150,7 @@ module _ (s starts : List ℕ) (c : Progress) (at : ℕ) (sized : length starts 
       same : stateOf s (kept starts c at) (movedTo c (w ∷ ws)) ≡ next (stateOf s starts c) (w ∷ ws)
       same = unfold movedTo next stateOf kept in (rw (h, q) (unfold stateOf in (entry-step s starts c sized f g at (ltb-true 0 (c .left) h))))
 
-      fits : Fits (movedTo c (w ∷ ws))
+      fits : Few (movedTo c (w ∷ ws))
       fits = unfold movedTo in (rw h (entry-fits s starts c sized f g (ltb-true 0 (c .left) h)))
 
   by-open : (w : Word) (ws : Line) → ltb 0 (c .left) ≡ false → openFault (opens (c .sect) w) (w ∷ ws) ≡ 0 → Steps (w ∷ ws)
@@ -159,8 +159,8 @@ module _ (s starts : List ℕ) (c : Progress) (at : ℕ) (sized : length starts 
       same : stateOf s (kept starts c at) (movedTo c (w ∷ ws)) ≡ next (stateOf s starts c) (w ∷ ws)
       same = unfold movedTo next stateOf kept in (rw (h, count-said (opens (c .sect) w) (w ∷ ws) o))
 
-      fits : Fits (movedTo c (w ∷ ws))
-      fits = unfold movedTo in (rw h f)
+      fits : Few (movedTo c (w ∷ ws))
+      fits = unfold movedTo in (rw h (record { rooms = f .rooms; tracks = f .tracks; obstacles = f .obstacles }))
 
   by-blank : Steps []
   unfolding movedTo next
@@ -174,5 +174,5 @@ module _ (s starts : List ℕ) (c : Progress) (at : ℕ) (sized : length starts 
   by-line [] q e = by-blank
   by-line (w ∷ ws) q e = test (ltb 0 (c .left)) (λ h. by-entry w ws q h) (λ h. by-open w ws h (open-right w ws h e))
 
-  pub step : fault (stateOf s starts c) (entryAt s at) ≡ 0 → (stateOf s (kept starts c at) (movedTo c (entryAt s at)) ≡ next (stateOf s starts c) (entryAt s at)) × Fits (movedTo c (entryAt s at))
+  pub step : fault (stateOf s starts c) (entryAt s at) ≡ 0 → (stateOf s (kept starts c at) (movedTo c (entryAt s at)) ≡ next (stateOf s starts c) (entryAt s at)) × Few (movedTo c (entryAt s at))
   step e = by-line (entryAt s at) refl e

@@ -41,6 +41,12 @@ pub record KeptEntries (s starts : List ℕ) (n : ℕ) : Type 0 where
 unfoldable pub keptName : List ℕ → List ℕ → ℕ → Word
 keptName s starts k = cond (ltb k (length starts)) (nth (entryAt s (getD starts k 0)) 0) []
 
+-- at most 64 entries of a kind
+pub record Few (c : Progress) : Type 0 where
+  pub rooms : c .rooms ≤ 64
+  pub tracks : c .tracks ≤ 64
+  pub obstacles : c .obstacles ≤ 64
+
 -- the state that the code stands for
 unfoldable pub stateOf : List ℕ → List ℕ → Progress → State
 stateOf s starts c = record {

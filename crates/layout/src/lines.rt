@@ -6,7 +6,7 @@ use text::line_at;
 use text::word;
 use text::word_count;
 ghost use mathlib.Core.Path.{_≡_};
-ghost use mathlib.Core.Bool.{true, not, _&&_};
+ghost use mathlib.Core.Bool.{true, cond, not, _&&_};
 ghost use Prim.Native.Nat.{_+_, _-_, _<_, _≤_};
 ghost use lib.ListN.{length, getD};
 ghost use lib.Dec.{eqb};
@@ -14,7 +14,7 @@ ghost use Rattle.text.specs.Scan.{words};
 ghost use Rattle.names.specs.Name.{isName, sameName};
 ghost use Rattle.text.specs.Reading.{nth};
 ghost use Rattle.layout.specs.Grammar.{sectionOf, follows, opens, placed, wordsOf, countRight, openFault, entryFault, fault};
-ghost use Rattle.layout.specs.Starts.{entryAt, stateOf, countIn, entered, movedTo, slotOf, kept, KeptEntries};
+ghost use Rattle.layout.specs.Starts.{entryAt, Few, stateOf, countIn, entered, movedTo, slotOf, kept, KeptEntries};
 
 // The section that a keyword opens, 0 for no keyword.
 pub(crate) fn section_of(w: &[u8]) -> usize
@@ -188,68 +188,38 @@ pub(crate) fn line_fault(s: &[u8], starts: &[usize], st: Progress, at: usize) ->
     open_fault(opened(st.sect, word(l, 0)), l)
 }
 
-// One entry more, of a section that is neither that of rooms nor that of tracks.
-pub(crate) fn one_obstacle_more(st: Progress) -> Progress
-    requires { ⌜ (0 < st .left) × ((st .obstacles ≤ 64) × ((st .sect ≡ 2 → ⊥) × (st .sect ≡ 3 → ⊥))) ⌝ }
+// One more where an entry is of that kind, else as many.
+pub(crate) fn one_if(n: usize, own: bool) -> usize
+    requires { ⌜ n ≤ 64 ⌝ }
+    ensures { λ r. ⌜ r ≡ cond own (n + 1) n ⌝ }
+{
+    if own {
+        return n + 1;
+    }
+    n
+}
+
+// One entry more in the section.
+pub(crate) fn one_more(st: Progress) -> Progress
+    requires { ⌜ (0 < st .left) × Few st ⌝ }
     ensures { λ r. ⌜ r ≡ entered st ⌝ }
 {
     let sect = st.sect;
-    let left = st.left - 1;
-    let rooms = st.rooms;
-    let tracks = st.tracks;
-    let obstacles = st.obstacles;
-    if sect == 4 {
-        return Progress {
-            sect,
-            left,
-            rooms,
-            tracks,
-            obstacles: obstacles + 1,
-        };
-    }
+    let rooms = one_if(st.rooms, sect == 2);
+    let tracks = one_if(st.tracks, sect == 3);
+    let obstacles = one_if(st.obstacles, sect == 4);
     Progress {
         sect,
-        left,
+        left: st.left - 1,
         rooms,
         tracks,
         obstacles,
     }
 }
 
-// One entry more in the section.
-pub(crate) fn one_more(st: Progress) -> Progress
-    requires { ⌜ (0 < st .left) × ((st .rooms ≤ 64) × ((st .tracks ≤ 64) × (st .obstacles ≤ 64))) ⌝ }
-    ensures { λ r. ⌜ r ≡ entered st ⌝ }
-{
-    let sect = st.sect;
-    let left = st.left - 1;
-    let rooms = st.rooms;
-    let tracks = st.tracks;
-    let obstacles = st.obstacles;
-    if sect == 2 {
-        return Progress {
-            sect,
-            left,
-            rooms: rooms + 1,
-            tracks,
-            obstacles,
-        };
-    }
-    if sect == 3 {
-        return Progress {
-            sect,
-            left,
-            rooms,
-            tracks: tracks + 1,
-            obstacles,
-        };
-    }
-    one_obstacle_more(st)
-}
-
 // The state behind a line.
 pub(crate) fn moved(st: Progress, l: &[u8]) -> Progress
-    requires { ⌜ (st .rooms ≤ 64) × ((st .tracks ≤ 64) × (st .obstacles ≤ 64)) ⌝ }
+    requires { ⌜ Few st ⌝ }
     ensures { λ r. ⌜ r ≡ movedTo st (words (now (l .entry))) ⌝ }
 {
     if word_count(l) == 0 {
@@ -271,7 +241,7 @@ pub(crate) fn moved(st: Progress, l: &[u8]) -> Progress
 
 // Where the next entry's start is kept.
 pub(crate) fn slot(st: Progress) -> usize
-    requires { ⌜ (st .tracks ≤ 64) × (st .obstacles ≤ 64) ⌝ }
+    requires { ⌜ Few st ⌝ }
     ensures { λ r. ⌜ r ≡ slotOf st ⌝ }
 {
     if st.sect == 2 {
@@ -285,7 +255,7 @@ pub(crate) fn slot(st: Progress) -> usize
 
 // Keeps the start of an entry.
 pub(crate) fn keep(starts: &mut [usize; 192], st: Progress, at: usize)
-    requires { ⌜ (st .tracks ≤ 64) × ((st .obstacles ≤ 64) × (0 < st .left → slotOf st < 192)) ⌝ }
+    requires { ⌜ Few st × (0 < st .left → slotOf st < 192) ⌝ }
     ensures { λ _. ⌜ now (starts .exit) ≡ kept (now (starts .entry)) st at ⌝ }
 {
     if st.left == 0 {

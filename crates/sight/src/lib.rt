@@ -86,11 +86,14 @@ fn read_lines(layout: &[u8], starts: &[usize], n: usize, s: &[u8]) -> Sight
     }
 }
 
-// Visibility against a layout that was accepted.
+// Visibility against a layout that was read.
 pub fn look(layout: &[u8], r: Layout, s: &[u8]) -> Sight
-    requires { ⌜ (r ≡ layoutRead (now layout)) × (r .number ≡ 0) ⌝ }
+    requires { ⌜ r ≡ layoutRead (now layout) ⌝ }
     ensures { λ v. ⌜ v ≡ sightOf (now (layout .entry)) (now (s .entry)) ⌝ }
 {
+    if r.number != 0 {
+        return refused_sight(r.number, r.place);
+    }
     let so = text::sound_verdict(s);
     if so.number != 0 {
         return refused_sight(so.number, so.place);
@@ -98,17 +101,6 @@ pub fn look(layout: &[u8], r: Layout, s: &[u8]) -> Sight
     let n = r.rooms;
     let starts = r.starts;
     read_lines(layout, &starts, n, s)
-}
-
-// Visibility against a layout.
-fn read(layout: &[u8], vis: &[u8]) -> Sight
-    ensures { λ v. ⌜ v ≡ sightOf (now (layout .entry)) (now (vis .entry)) ⌝ }
-{
-    let r = layout::read(layout);
-    if r.number != 0 {
-        return refused_sight(r.number, r.place);
-    }
-    look(layout, r, vis)
 }
 
 // ---- what other crates call
@@ -127,7 +119,7 @@ pub fn is_seen(row: u64, j: usize) -> bool
 pub fn sight_row(layout: &[u8], vis: &[u8], room: u32) -> Row
     ensures { λ r. ⌜ r ≡ rowAnswer (now (layout .entry)) (now (vis .entry)) room ⌝ }
 {
-    let v = read(layout, vis);
+    let v = look(layout, layout::read(layout), vis);
     let number = v.number;
     let place = v.place;
     let i = room as usize;

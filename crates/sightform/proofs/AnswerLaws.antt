@@ -3,12 +3,14 @@ use mathlib.Core.Path.{_≡_, refl, sym, ap, _∙_}
 use mathlib.Core.List.{List, map}
 use Prim.Native.Nat.{ℕ}
 use native.Mathlib.Omega.{arith}
+use native.Mathlib.Decide.{ℕ-discrete}
 use lib.ListN.{length, length-map}
 use lib.Seq.{set-out}
 use Rattle.verdict.specs.declared.Answer.{Answer}
 use Rattle.verdict.specs.declared.Form.{Form}
 use Rattle.verdict.specs.Verdict.{accepted, refused}
 use Rattle.verdict.specs.Output.{noForm}
+use Rattle.verdict.proofs.Bools.{decided}
 use Rattle.verdict.proofs.Verdict.{then-next, then-stop}
 use Rattle.verdict.proofs.Output.{Answers, refused-form, first-refuses, second-refuses, third-decides}
 use Rattle.letters.specs.Case.{lowered}
@@ -42,14 +44,6 @@ module _ (layout s : List ℕ) (r : Layout) (a : r ≡ layoutRead layout) where
       sight-no-layout layout s (λ y. z (sym (ap (λ (v : Answer). v .number) e) ∙ y)) ∙ e
 
   module _ (o : List ℕ) where
-    pub rewrite-unread : (r .number ≡ 0 → ⊥) → (f : Form) → f ≡ noForm (r .number) (r .place) → Answers f o (sightRewriteVerdict layout s (length o)) (rewrittenSight layout s) o
-    unfolding sightRewriteVerdict
-    rewrite-unread z f e = refused-form _ (rewrittenSight layout s) o _ _ (rw (layout-refuses z) (then-stop (refused (r .number) (r .place)) z _)) z f e
-
-    pub rename-unread : (i : ℕ) (w : Word) → (r .number ≡ 0 → ⊥) → (f : Form) → f ≡ noForm (r .number) (r .place) → Answers f o (sightRenameVerdict layout s i w (length o)) (renamedSight layout s i w) o
-    unfolding sightRenameVerdict
-    rename-unread i w z f e = first-refuses (sightVerdict layout s) _ _ (renamedSight layout s i w) o _ _ (layout-refuses z) z f e
-
     -- ---- by what was read of the text
 
     module _ (v : Sight) (ev : v ≡ sightOf layout s) where
@@ -66,6 +60,11 @@ module _ (layout s : List ℕ) (r : Layout) (a : r ≡ layoutRead layout) where
 
       accepts : v .number ≡ 0 → sightVerdict layout s ≡ accepted
       accepts z = sight-proper layout s .at-0 (ap (λ (x : Answer). x .number) verdict-read ∙ z)
+
+      -- then the layout was accepted too
+      pub layout-accepted : v .number ≡ 0 → r .number ≡ 0
+      layout-accepted z =
+          decided (ℕ-discrete (r .number) 0) (λ y. y) (λ y. absurd (y (sym (ap (λ (x : Answer). x .number) (sym verdict-read ∙ layout-refuses y)) ∙ z)))
 
       pub rewrite-refused : (v .number ≡ 0 → ⊥) → (f : Form) → f ≡ noForm (v .number) (v .place) → Answers f o (sightRewriteVerdict layout s (length o)) (rewrittenSight layout s) o
       unfolding sightRewriteVerdict

@@ -14,9 +14,6 @@ pub fn sight_rewrite(layout: &[u8], vis: &[u8], out: &mut [u8]) -> Form
     ensures memory { λ _. ⌜ now (out .exit) ≡ formMemory (sightRewriteVerdict (now (layout .entry)) (now (vis .entry)) (length (now (out .entry)))) (rewrittenSight (now (layout .entry)) (now (vis .entry))) (now (out .entry)) ⌝ }
 {
     let r = layout::read(layout);
-    if r.number != 0 {
-        return refused_form(r.number, r.place);
-    }
     let v = sight::look(layout, r, vis);
     if v.number != 0 {
         return refused_form(v.number, v.place);
@@ -33,9 +30,6 @@ pub fn sight_rename(layout: &[u8], vis: &[u8], room: u32, name: &[u8], out: &mut
     ensures memory { λ _. ⌜ now (out .exit) ≡ formMemory (sightRenameVerdict (now (layout .entry)) (now (vis .entry)) room (now (name .entry)) (length (now (out .entry)))) (renamedSight (now (layout .entry)) (now (vis .entry)) room (now (name .entry))) (now (out .entry)) ⌝ }
 {
     let r = layout::read(layout);
-    if r.number != 0 {
-        return refused_form(r.number, r.place);
-    }
     let v = sight::look(layout, r, vis);
     if v.number != 0 {
         return refused_form(v.number, v.place);

@@ -35,7 +35,7 @@ returns c =
 keep-requires : tie.Need-keep-requires Inv-loop μ-loop
 keep-requires c κs =
     let v = c .before .before .before .before .before .loop .inv in
-    (v .fits .1 .0, (v .fits .1 .1, slot-inside _ _ _ (v .sized) (v .fits) (v .good)))
+    (v .fits, slot-inside _ _ _ (v .sized) (v .fits) (v .good))
 
 moved-requires : tie.Need-moved-requires Inv-loop μ-loop
 moved-requires c κs = let z = c .before .before .before .before .before .before .before in z .loop .inv .fits

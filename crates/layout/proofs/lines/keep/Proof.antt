@@ -11,7 +11,7 @@ use Rattle.layout.proofs.lines.keep.Tie as tie
 inside : (c : tie.After-slot) → c .slot .result < 192
 inside c =
     let g = c .before .before .before in
-    let h : slotOf (g .args .st) < 192 = g .pre .1 .1 (omega (arith, c .before .if1 .left)) in
+    let h : slotOf (g .args .st) < 192 = g .pre .1 (omega (arith, c .before .if1 .left)) in
     omega (arith, c .slot .ensures)
 
 returns : tie.Need-returns
