@@ -127,7 +127,7 @@ constexpr std::string_view words(Refusal refusal) noexcept {
         case Refusal::corner: return "A face has a corner that is missing or used twice.";
         case Refusal::material: return "A face has a material that the house does not know.";
         case Refusal::walkable_first: return "Walkable faces do not stand before the others.";
-        case Refusal::node_count: return "The search tree has the wrong number of nodes or the wrong root.";
+        case Refusal::node_count: return "The search tree has the wrong number of nodes, or its root is none of them.";
         case Refusal::node_kind: return "A node of the search tree is neither a leaf nor a fork.";
         case Refusal::one_tree: return "The search tree is not one tree over all faces.";
         case Refusal::box: return "A box of the search tree is too small for what it holds.";

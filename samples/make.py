@@ -93,6 +93,14 @@ def with_entry(parts, table, i, entry):
     return parts
 
 
+def renumbered(parts, new):
+    """The same tree with other numbers: node n becomes node new[n], the root too."""
+    nodes = [None] * len(new)
+    for n, node in enumerate(parts["nodes"]):
+        nodes[new[n]] = node[:9] + [c if c == NONE else new[c] for c in node[9:]]
+    return dict(parts, nodes=nodes, root=new[parts["root"]])
+
+
 def samples():
     """name, what it is for, the bytes, the line"""
     corner = [(0.0, 0.0, 0.0), (1.0, 0.0, 0.0), (0.0, 1.0, 0.0), (1.0, 1.0, 0.0)]
@@ -113,6 +121,9 @@ def samples():
     yield "shuffled", "the square with its tables in another order and gaps between them", spelled(two, TABLES[::-1], 5), "accepted faces 2 walkable 2 edges 4 perimeters 1"
     yield "mixed", "a walkable and an unwalkable face", spelled(mixed), "accepted faces 2 walkable 1 edges 3 perimeters 1"
     yield "linked", "the triangle with an edge linked to room 63", spelled(with_entry(one, "edges", 1, [1, 63])), "accepted faces 1 walkable 1 edges 3 perimeters 1"
+    yield "root-last", "the floor with a hole, its tree numbered from the last node down", spelled(renumbered(ring, range(31)[::-1])), "accepted faces 16 walkable 16 edges 16 perimeters 2"
+    yield "root-between", "the square, whose tree hangs from node 1", spelled(renumbered(two, [1, 2, 0])), "accepted faces 2 walkable 2 edges 4 perimeters 1"
+    yield "root-of-none", "a header alone with any root: without nodes the field is ignored", spelled(dict(floor([], [], []), root=7)), "accepted faces 0 walkable 0 edges 0 perimeters 0"
     yield "01-short", "W2: 135 bytes", w1[:135], "refused 1 at 0"
     yield "02-word", "another first byte", b"C" + w1[1:], "refused 2 at 0"
     yield "03-world", "world_coords 0", changed(w1, 8, 0), "refused 3 at 8"
@@ -124,8 +135,9 @@ def samples():
     yield "09-material", "material 23", spelled(with_entry(one, "materials", 0, [23])), "refused 9 at 0"
     yield "10-order", "a walkable face behind an unwalkable one", spelled(floor(corner, [(0, 1, 2), (2, 1, 3)], [7, 4])), "refused 10 at 0"
     yield "11-nodes", "no nodes at all", spelled(dict(one, nodes=[])), "refused 11 at 100"
-    yield "11-root", "another root", spelled(dict(two, root=1)), "refused 11 at 108"
+    yield "11-root", "a root equal to the node count", spelled(dict(two, root=3)), "refused 11 at 108"
     yield "12-node", "a leaf with plane 1", spelled(with_entry(two, "nodes", 2, two["nodes"][2][:8] + [1, NONE, NONE])), "refused 12 at 2"
+    yield "13-root", "the root field names a leaf of the square", spelled(dict(two, root=1)), "refused 13 at 0"
     yield "13-ring", "nodes that hang in a ring, apart from the root", spelled(
         with_entry(with_entry(ring, "nodes", 1, ring["nodes"][1][:9] + [2, 1]), "nodes", 0, ring["nodes"][0])), "refused 13 at 0"
     yield "14-box", "the root's box misses a corner", spelled(with_entry(two, "nodes", 0, [0.0, 0.0, 0.0, 0.5, 1.0, 0.0] + two["nodes"][0][6:])), "refused 14 at 0"

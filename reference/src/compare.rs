@@ -3,9 +3,11 @@
 use crate::answer::Fields;
 use crate::calls::Calls;
 use crate::fault::{self, Fault};
+use crate::floor::tables::{Table, FIELDS, ROOT_FIELD};
 use crate::generate::cases::{case, Call, Case, Lent};
 use crate::generate::sessions::{Move, Play};
 use crate::journal::{LINK, PAINT};
+use crate::words::word_at;
 use std::collections::{BTreeMap, BTreeSet};
 
 /// One side of a comparison: its calls, and a fault planted while they run.
@@ -161,6 +163,9 @@ pub struct Tally {
     calls: BTreeMap<&'static str, usize>,
     numbers: BTreeMap<u64, BTreeMap<&'static str, usize>>,
     places: BTreeMap<u64, BTreeSet<u64>>,
+    /// Floors with nodes that a call over a whole floor accepted, and those of them whose root is not node 0.
+    pub with_tree: usize,
+    pub with_another_root: usize,
     pub cases: u64,
     pub different: u64,
 }
@@ -175,6 +180,20 @@ impl Tally {
             if let ("place", place) = one.fields[1] {
                 self.places.entry(number).or_default().insert(place);
             }
+            self.add_root(one);
+        }
+    }
+
+    /// Looks where the tree of an accepted floor hangs. The journal's calls ask nothing of the tree.
+    fn add_root(&mut self, one: &Done) {
+        let whole = matches!(one.call, "read" | "rewrite" | "query" | "link_check");
+        if !whole || one.fields[0].1 != 0 {
+            return;
+        }
+        let floor = &one.memory[0].1[GUARD..];
+        if word_at(floor, FIELDS[Table::Nodes as usize].count) > 0 {
+            self.with_tree += 1;
+            self.with_another_root += usize::from(word_at(floor, ROOT_FIELD) != 0);
         }
     }
 
@@ -184,7 +203,7 @@ impl Tally {
         by_call.map_or(0, |by_call| by_call.values().sum())
     }
 
-    /// Both tables and the last line.
+    /// Both tables, the roots and the last line.
     pub fn print(&self) {
         println!("{:<16}{:>9}", "call", "calls");
         for (call, count) in &self.calls {
@@ -202,7 +221,11 @@ impl Tally {
             let answered = self.answered(number);
             println!("{number:<8}{answered:>9}{places:>8}  {}", by.join(", "));
         }
-        println!("\n{} cases, {} differences", self.cases, self.different);
+        println!(
+            "\naccepted floors with a tree {}, of which with another root than 0 {}",
+            self.with_tree, self.with_another_root
+        );
+        println!("{} cases, {} differences", self.cases, self.different);
     }
 }
 

@@ -1,9 +1,9 @@
 //! Faults that can be planted into this implementation, to show that the comparison notices them.
-//! Most are the errors that 01 expects someone to try. None is planted unless asked for.
+//! Most are the errors that 01 expects someone to try, or what a request of 02 has changed. None is planted unless asked for.
 
 use std::cell::Cell;
 
-/// One deliberate departure from 01.
+/// One deliberate departure from 01 and 02.
 #[derive(Clone, Copy, Debug, PartialEq, Eq)]
 pub enum Fault {
     /// A nudge that leaves -0 as it is.
@@ -30,10 +30,14 @@ pub enum Fault {
     StoppedPutBack,
     /// Work memory left as it was.
     WorkKept,
+    /// A tree that hangs from node 0 whatever the root field says.
+    RootFirst,
+    /// A root field that must be 0 where there are no nodes.
+    RootOfNone,
 }
 
 /// All faults with the names by which they are asked for.
-pub const FAULTS: [(&str, Fault); 12] = [
+pub const FAULTS: [(&str, Fault); 14] = [
     ("minus-zero", Fault::MinusZero),
     ("full-by-f", Fault::FullByF),
     ("children-from-one", Fault::ChildrenFromOne),
@@ -46,6 +50,8 @@ pub const FAULTS: [(&str, Fault); 12] = [
     ("case-counts", Fault::CaseCounts),
     ("stopped-put-back", Fault::StoppedPutBack),
     ("work-kept", Fault::WorkKept),
+    ("root-first", Fault::RootFirst),
+    ("root-of-none", Fault::RootOfNone),
 ];
 
 thread_local! {

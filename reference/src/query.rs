@@ -77,7 +77,7 @@ fn visited(tables: &Tables, point: [i64; 2]) -> Checked<usize> {
         return Ok(nodes.len());
     }
     let mut count = 0;
-    let mut to_visit = vec![0];
+    let mut to_visit = vec![tree::root(tables)];
     while let Some(node) = to_visit.pop() {
         count += 1;
         if let Node::Inner { left, right } = nodes[node] {

@@ -88,6 +88,23 @@ fn every_refusal_occurs() {
 }
 
 #[test]
+fn trees_hang_from_any_node() {
+    let tally = compare(4_000, 5, [&HONEST, &HONEST], |_| (), |_, _| ());
+    assert!(tally.with_tree > 400, "{}", tally.with_tree);
+    let tenth = tally.with_tree / 10;
+    assert!(
+        tally.with_another_root > tenth,
+        "{}",
+        tally.with_another_root
+    );
+    assert!(
+        tally.with_tree - tally.with_another_root > tenth,
+        "{}",
+        tally.with_another_root
+    );
+}
+
+#[test]
 fn every_planted_fault_is_noticed() {
     for (name, fault) in FAULTS {
         let planted = Side {

@@ -131,14 +131,57 @@ fn refusal_11_node_count_and_root() {
     let mut model = square();
     model.nodes.pop();
     assert_eq!(verdict(&model), (11, 100));
+    for root in [3, 4, 8_191, NONE] {
+        let mut model = square();
+        model.root = root;
+        assert_eq!(verdict(&model), (11, 108));
+        model.nodes.pop();
+        assert_eq!(verdict(&model), (11, 100)); // the count comes first
+    }
+}
+
+#[test]
+fn without_nodes_the_root_says_nothing() {
+    for root in [0, 1, NONE] {
+        let empty = reference::generate::model::Model {
+            root,
+            ..Default::default()
+        };
+        assert_eq!(verdict(&empty), (0, 0));
+        assert_eq!(rewritten(&empty.in_order()).1, empty.in_order()); // the form keeps it
+        assert_eq!(query(&empty.in_order(), 0, 0), Point::default());
+    }
+}
+
+#[test]
+fn a_tree_hangs_from_any_node() {
+    for root in 0..3 {
+        let model = hung_from(root);
+        assert_eq!(verdict(&model), (0, 0));
+        let bytes = model.in_order();
+        let answer = query(&bytes, 64, 64);
+        assert_eq!((answer.found, answer.face, answer.visited), (1, 1, 3));
+        let answer = query(&bytes, 65, 64);
+        assert_eq!((answer.found, answer.face, answer.visited), (0, 0, 1));
+        for other in 0..3 {
+            let moved = verdict_with(&model, 108, other);
+            assert_eq!(moved, if other == root { (0, 0) } else { (13, 0) });
+        }
+    }
+}
+
+/// The square, whose root is any of its three nodes.
+fn hung_from(root: u32) -> reference::generate::model::Model {
     let mut model = square();
-    model.root = 1;
-    assert_eq!(verdict(&model), (11, 108));
-    let empty = reference::generate::model::Model {
-        root: 1,
-        ..Default::default()
+    model.nodes.swap(0, root as usize);
+    model.root = root;
+    let children = match root {
+        0 => [1, 2],
+        1 => [0, 2],
+        _ => [1, 0],
     };
-    assert_eq!(verdict(&empty), (11, 108));
+    model.nodes[root as usize][9..].copy_from_slice(&children);
+    model
 }
 
 #[test]
@@ -184,12 +227,13 @@ fn refusal_13_more_than_64_steps() {
 #[test]
 fn refusal_13_a_detached_ring() {
     let mut model = floors::chain(&mut Random::new(7), 3);
-    let inner = model.nodes[0][9..]
+    let root = model.root as usize;
+    let inner = model.nodes[root][9..]
         .iter()
         .position(|&n| model.nodes[n as usize][6] == NONE);
     let side = 9 + inner.expect("one child of the root is an inner node");
-    let cut = model.nodes[0][side];
-    model.nodes[0][side] = model.nodes[cut as usize][9];
+    let cut = model.nodes[root][side];
+    model.nodes[root][side] = model.nodes[cut as usize][9];
     model.nodes[cut as usize][9] = cut;
     assert_eq!(verdict(&model), (13, 0));
 }

@@ -1,10 +1,9 @@
 -- The reader accepts exactly the sound floors; and what acceptance gives its callers. Assumes nothing.
 use mathlib.Core.Path.{_≡_, ap, _∙_}
-use mathlib.Core.Bool.{true, not}
 use mathlib.Core.List.{List}
 use Prim.Native.Nat.{ℕ, _≤_}
 use lib.Dec.{ltb}
-use borrow.Author.Tests.{le-ltb, ltb-false, not-false}
+use borrow.Author.Tests.{le-ltb, ltb-false}
 use Rattle.verdict.specs.Verdict.{accepted}
 use Rattle.verdict.specs.Memory.{workSize}
 use Rattle.verdict.specs.declared.Answer.{Answer}
@@ -15,10 +14,8 @@ use Rattle.tables.proofs.Right.{header-sound, sound-header}
 use Rattle.tables.proofs.Reading.{sized-of}
 use Rattle.mesh.specs.Mesh.{Meshed}
 use Rattle.mesh.proofs.Plain.{mesh-met, met-mesh}
-use Rattle.nodes.specs.Nodes.{nodesOf, faceOf}
 use Rattle.nodes.specs.Plain.{SoundNodes, Closed}
-use Rattle.nodes.proofs.Rule12.{nodes-met, met-nodes, kinds-closed}
-use Rattle.tree.specs.Tree.{oneTree, rule13}
+use Rattle.nodes.proofs.Rule12.{nodes-met, met-nodes, sound-closed}
 use Rattle.tree.specs.Boxes.{rules13to14}
 use Rattle.tree.proofs.Theorem.{rule13-met, met-rule13}
 use Rattle.tree.proofs.Held.{boxes-met, met-boxes}
@@ -41,11 +38,7 @@ shape-met b r z =
     let s = sized-of b r in
     let h = passed _ _ z in
     let n = nodes-met (partsOf b) (h .1) in
-    record { mesh = mesh-met (wordPlace b) (partsOf b) (s .adjacency) (h .0); nodes = n; closed = kinds-closed (partsOf b) (s .faces) (n .kinds) }
-
-one-of : (p : Parts) → rule13 p .number ≡ 0 → oneTree (nodesOf p) (faceOf p) 0 (p .nodes) (p .faces) ≡ true
-unfolding rule13
-one-of p z = not-false _ (unbroken 12 (not (oneTree (nodesOf p) (faceOf p) 0 (p .nodes) (p .faces))) 0 z)
+    record { mesh = mesh-met (wordPlace b) (partsOf b) (s .adjacency) (h .0); nodes = n; closed = sound-closed (partsOf b) (s .faces) n }
 
 -- all that rules 1 to 19 give
 pub all-met : (b : List ℕ) → rules1to19 b .number ≡ 0 → Accepted b
@@ -64,7 +57,6 @@ all-met b z =
       mesh = shape .mesh;
       nodes = shape .nodes;
       closed = shape .closed;
-      one = one-of (partsOf b) (t .0);
       tree = rule13-met (partsOf b) (shape .nodes .count) (shape .closed) (t .0);
       boxes = boxes-met (partsOf b) (s .faces) (t .1);
       borders = borders-sound (partsOf b) (h4 .0) (h4 .1);
@@ -97,7 +89,7 @@ sound-all b s =
     let p = partsOf b in
     let h = sound-header b (s .header) in
     let few = sized-of b (ap (λ (a : Answer). a .number) h) .faces in
-    let c = kinds-closed p few (s .nodes .kinds) in
+    let c = sound-closed p few (s .nodes) in
     let e = sound-borders p (s .borders) in
     then-both h
     (then-both (then-both (met-mesh (wordPlace b) p (s .mesh)) (met-nodes p (s .nodes)))

@@ -1,15 +1,11 @@
 -- All that acceptance by the reader gives its callers, by name: what the rewriter, the query, the editor and the link check go by.
 use Prim.Native.Nat.{ℕ}
-use mathlib.Core.Path.{_≡_}
-use mathlib.Core.Bool.{true}
 use mathlib.Core.List.{List}
 use Rattle.tables.specs.Header.{RightHeader}
 use Rattle.tables.specs.Parts.{partsOf}
 use Rattle.tables.specs.Fixed.{Sized}
 use Rattle.mesh.specs.Mesh.{Meshed}
-use Rattle.nodes.specs.Nodes.{nodesOf, faceOf}
 use Rattle.nodes.specs.Plain.{SoundNodes, Closed}
-use Rattle.tree.specs.Tree.{oneTree}
 use Rattle.tree.specs.Plain.{FloorTree, BoxesHold}
 use Rattle.border.specs.Plain.{SoundBorders}
 
@@ -19,7 +15,6 @@ pub record Accepted (b : List ℕ) : Type 0 where
   pub mesh : Meshed (partsOf b)
   pub nodes : SoundNodes (partsOf b)
   pub closed : Closed (partsOf b)
-  pub one : oneTree (nodesOf (partsOf b)) (faceOf (partsOf b)) 0 (partsOf b .nodes) (partsOf b .faces) ≡ true
   pub tree : FloorTree (partsOf b)
   pub boxes : BoxesHold (partsOf b)
   pub borders : SoundBorders (partsOf b)

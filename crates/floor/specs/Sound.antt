@@ -14,9 +14,9 @@ pub record Sound (b : List ℕ) : Type 0 where
   pub header : SoundHeader b
   -- 7 to 10: every float finite; corners name three vertices; materials known, the walkable faces those under A
   pub mesh : Meshed (partsOf b)
-  -- 11 and 12: 2F-1 nodes, each a leaf or inner
+  -- 11 and 12: 2F-1 nodes, the root one of them where there are any, each a leaf or inner
   pub nodes : SoundNodes (partsOf b)
-  -- 13: exactly one path of at most 64 steps to each node, each face in exactly one leaf
+  -- 13: exactly one path of at most 64 steps from the root to each node, each face in exactly one leaf
   pub tree : FloorTree (partsOf b)
   -- 14: boxes hold their corners or their children's boxes
   pub boxes : BoxesHold (partsOf b)

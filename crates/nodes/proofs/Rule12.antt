@@ -1,18 +1,18 @@
--- Rules 11 and 12: leaf and inner node as tests and as plain statements, both ways, and what rule 12 shows. Assumes nothing.
+-- Rules 11 and 12: leaf, inner node and root as tests and as plain statements, both ways, and what the rules show. Assumes nothing.
 use Prim.Native.Nat.{ℕ, _*_, _-_, _<_, _≤_}
 use native.Mathlib.Omega.{arith}
 use native.Mathlib.Decide.{ℕ-discrete}
-use mathlib.Core.Path.{_≡_}
+use mathlib.Core.Path.{_≡_, sym, _∙_}
 use mathlib.Core.Logic.{_⊎_, inl, inr, ⊎-elim}
 use mathlib.Core.Bool.{true, false, _&&_, _||_}
 use lib.Dec.{eqb, ltb, leb}
-use borrow.Author.Tests.{lt-ltb, ltb-true, leb-true, eq-eqb, ne-eqb, eqb-true, not-false}
+use borrow.Author.Tests.{lt-ltb, ltb-true, leb-true, leb-false, lt-leb, eq-eqb, ne-eqb, eqb-true, not-false}
 use Rattle.verdict.specs.Verdict.{accepted}
 use Rattle.verdict.proofs.Bools.{clash, test, decided, and-true}
 use Rattle.verdict.proofs.Verdict.{passed, unbroken, met, then-both, each-met, each-passes}
 use Rattle.tables.specs.Parts.{none32, Parts}
-use Rattle.nodes.specs.Nodes.{faceOf, planeOf, leftOf, rightOf, nodesOf, isPlane, isLeaf, isInner, neither, rule11, rule12, rules11to12}
-use Rattle.nodes.specs.Plain.{Plane, Leaf, Inner, Closed, SoundNodes}
+use Rattle.nodes.specs.Nodes.{faceOf, planeOf, leftOf, rightOf, nodesOf, isPlane, isLeaf, isInner, neither, strayRoot, rule11, rule12, rules11to12}
+use Rattle.nodes.specs.Plain.{Plane, Leaf, Inner, Rooted, Closed, SoundNodes}
 
 -- ---- the plane
 
@@ -102,19 +102,36 @@ module _ (p : Parts) (n : ℕ) where
   pub not-both : p .faces ≤ 4096 → Leaf p n → Inner p n → ⊥
   not-both few l i = clash (inner-is i) (leaf-is few l)
 
--- ---- rule 11
+-- ---- rule 11: how many nodes, and the root one of them
 
-pub rule11-met : (p : Parts) → rule11 p .number ≡ 0 → (p .nodes ≡ 2 * p .faces - 1) × (p .root ≡ 0)
-unfolding rule11
-rule11-met p z =
-    let h = passed _ _ z in (
-      eqb-true (p .nodes) (2 * p .faces - 1) (not-false (eqb (p .nodes) (2 * p .faces - 1)) (unbroken 10 _ 100 (h .0))),
-      eqb-true (p .root) 0 (not-false (eqb (p .root) 0) (unbroken 10 _ 108 (h .1))),
-    )
+module _ (p : Parts) where
+  pub root-of-none : p .nodes ≡ 0 → strayRoot p ≡ false
+  unfolding strayRoot
+  root-of-none e = rw e
 
-pub met-rule11 : (p : Parts) → p .nodes ≡ 2 * p .faces - 1 → p .root ≡ 0 → rule11 p ≡ accepted
-unfolding rule11
-met-rule11 p e z = then-both (rw (eq-eqb (p .nodes) (2 * p .faces - 1) e) (met 11 100)) (rw (eq-eqb (p .root) 0 z) (met 11 108))
+  pub root-of-some : 0 < p .nodes → strayRoot p ≡ leb (p .nodes) (p .root)
+  unfolding strayRoot
+  root-of-some some = rw (lt-ltb 0 (p .nodes) some)
+
+  root-met : strayRoot p ≡ false → Rooted p
+  root-met e some = leb-false (p .nodes) (p .root) (sym (root-of-some some) ∙ e)
+
+  met-root : Rooted p → strayRoot p ≡ false
+  met-root h =
+      decided (ℕ-discrete (p .nodes) 0) root-of-none
+      (λ y. let some : 0 < p .nodes = omega arith in root-of-some some ∙ lt-leb (p .nodes) (p .root) (h some))
+
+  pub rule11-met : rule11 p .number ≡ 0 → (p .nodes ≡ 2 * p .faces - 1) × Rooted p
+  unfolding rule11
+  rule11-met z =
+      let h = passed _ _ z in (
+        eqb-true (p .nodes) (2 * p .faces - 1) (not-false (eqb (p .nodes) (2 * p .faces - 1)) (unbroken 10 _ 100 (h .0))),
+        root-met (unbroken 10 (strayRoot p) 108 (h .1)),
+      )
+
+  pub met-rule11 : p .nodes ≡ 2 * p .faces - 1 → Rooted p → rule11 p ≡ accepted
+  unfolding rule11
+  met-rule11 e h = then-both (rw (eq-eqb (p .nodes) (2 * p .faces - 1) e) (met 11 100)) (rw (met-root h) (met 11 108))
 
 -- ---- rule 12: every node is leaf or inner
 
@@ -126,16 +143,14 @@ pub met-rule12 : (p : Parts) → ((n : ℕ) → n < p .nodes → Leaf p n ⊎ In
 unfolding rule12
 met-rule12 p h = each-passes 12 (p .nodes) (neither p) _ (λ n l. neither-from p n (h n l))
 
--- so children are nodes, and leaves name faces
-pub kinds-closed : (p : Parts) → p .faces ≤ 4096 → ((n : ℕ) → n < p .nodes → Leaf p n ⊎ Inner p n) → Closed p
-kinds-closed p few kinds = record {
-  left = λ n l e. ⊎-elim (λ (h : Leaf p n). clash e (leaf-is p n few h)) (λ (h : Inner p n). h .left) (kinds n l);
-  right = λ n l e. ⊎-elim (λ (h : Leaf p n). clash e (leaf-is p n few h)) (λ (h : Inner p n). h .right) (kinds n l);
-  face = λ n l e. ⊎-elim (λ (h : Leaf p n). h .face) (λ (h : Inner p n). clash (inner-is p n h) e) (kinds n l);
+-- so the root and all children are nodes, and leaves name faces
+pub sound-closed : (p : Parts) → p .faces ≤ 4096 → SoundNodes p → Closed p
+sound-closed p few s = record {
+  root = s .root;
+  left = λ n l e. ⊎-elim (λ (h : Leaf p n). clash e (leaf-is p n few h)) (λ (h : Inner p n). h .left) (s .kinds n l);
+  right = λ n l e. ⊎-elim (λ (h : Leaf p n). clash e (leaf-is p n few h)) (λ (h : Inner p n). h .right) (s .kinds n l);
+  face = λ n l e. ⊎-elim (λ (h : Leaf p n). h .face) (λ (h : Inner p n). clash (inner-is p n h) e) (s .kinds n l);
 }
-
-pub closed : (p : Parts) → p .faces ≤ 4096 → rule12 p .number ≡ 0 → Closed p
-closed p few z = kinds-closed p few (rule12-met p z)
 
 -- ---- both rules: all that they ask
 

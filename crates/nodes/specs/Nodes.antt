@@ -45,9 +45,13 @@ isInner p n = eqb (faceOf p n) none32 && isPlane (planeOf p n) && ltb (leftOf p 
 unfoldable pub neither : Parts → ℕ → Bool
 neither p n = not (isLeaf p n || isInner p n)
 
--- 11: nodes not 2F-1 (0 if F = 0: so it is with a difference of counts), else root not 0
+-- nodes exist and the root isn't under the node count
+unfoldable pub strayRoot : Parts → Bool
+strayRoot p = ltb 0 (p .nodes) && leb (p .nodes) (p .root)
+
+-- 11: nodes not 2F-1 (0 if F = 0: so it is with a difference of counts), else a root that is none of them (M-101)
 unfoldable pub rule11 : Parts → Answer
-rule11 p = rule 11 (not (eqb (p .nodes) (2 * p .faces - 1))) 100 then rule 11 (not (eqb (p .root) 0)) 108
+rule11 p = rule 11 (not (eqb (p .nodes) (2 * p .faces - 1))) 100 then rule 11 (strayRoot p) 108
 
 -- 12: a node neither leaf nor inner; place the lowest node
 unfoldable pub rule12 : Parts → Answer

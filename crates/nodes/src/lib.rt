@@ -6,7 +6,7 @@ ghost use Rattle.verdict.specs.Lowest.{lowest};
 ghost use Rattle.verdict.specs.Verdict.{_then_};
 ghost use Rattle.tables.specs.Header.{RightHeader};
 ghost use Rattle.tables.specs.Parts.{partsOf};
-ghost use Rattle.nodes.specs.Nodes.{faceOf, planeOf, leftOf, rightOf, nodesOf, isPlane, isLeaf, isInner, neither, rules11to12};
+ghost use Rattle.nodes.specs.Nodes.{faceOf, planeOf, leftOf, rightOf, nodesOf, isPlane, isLeaf, isInner, neither, strayRoot, rules11to12};
 
 // No face, no child.
 const NONE: usize = wire::NONE as usize;
@@ -147,6 +147,19 @@ fn nodes_for(faces: usize) -> usize
     2 * faces - 1
 }
 
+// Whether there are nodes, and the root is none of them.
+fn is_root_stray(bytes: &[u8]) -> bool
+    requires { ⌜ RightHeader (now bytes) ⌝ }
+    ensures { λ r. ⌜ r ≡ strayRoot (partsOf (now (bytes .entry))) ⌝ }
+{
+    let nodes = node_count(bytes);
+    let root = tables::root_of(bytes) as usize;
+    if 0 < nodes {
+        return nodes <= root;
+    }
+    false
+}
+
 // 11 and 12, after what was found so far.
 pub fn then_nodes(so: Answer, bytes: &[u8]) -> Answer
     requires { ⌜ RightHeader (now bytes) ⌝ }
@@ -155,7 +168,7 @@ pub fn then_nodes(so: Answer, bytes: &[u8]) -> Answer
     let nodes = node_count(bytes);
     let right = nodes_for(face_count(bytes));
     let a = verdict::then_rule(so, 11, nodes != right, 100);
-    let b = verdict::then_rule(a, 11, tables::root_of(bytes) != 0, 108);
+    let b = verdict::then_rule(a, 11, is_root_stray(bytes), 108);
     let n = first_neither(bytes);
     verdict::then_rule(b, 12, n < nodes, n as u32)
 }

@@ -1,17 +1,15 @@
 -- The query in the paper's words: what it does not refuse, the lowest face of all that hold the point, and the nodes visited: the root,
 -- and every node all of whose ancestors' boxes hold x and y. Assumes nothing.
-use mathlib.Core.Path.{_≡_, refl, sym, ap, subst, _∙_}
+use mathlib.Core.Path.{_≡_, refl, sym, ap, _∙_}
 use mathlib.Core.Logic.{_⊎_, inl, inr, _≢_}
 use mathlib.Core.Bool.{Bool, true, false}
-use mathlib.Core.List.{List, [], _∷_, _++_}
-use mathlib.Core.Option.{some}
+use mathlib.Core.List.{List}
 use Prim.Native.Nat.{ℕ, zero, suc, _<_, _≤_}
 use native.Mathlib.Omega.{arith}
 use native.Mathlib.Decide.{decLt, ℕ-discrete}
 use lib.IntN.{ℤ, natAbs}
-use lib.ListN.{length, length-append}
 use lib.Dec.{ltb}
-use borrow.Author.Tests.{ltb-false, le-leb, ne-eqb}
+use borrow.Author.Tests.{ltb-false, le-leb, eq-eqb, ne-eqb}
 use Rattle.verdict.specs.Verdict.{accepted}
 use Rattle.verdict.specs.Memory.{workSize}
 use Rattle.verdict.specs.declared.Answer.{Answer}
@@ -24,11 +22,10 @@ use Rattle.grid.proofs.Grid.{grid-on}
 use Rattle.triangle.proofs.Weights.{held}
 use Rattle.tables.specs.Parts.{Parts, partsOf}
 use Rattle.nodes.specs.Nodes.{Nodes, nodesOf, faceOf}
-use Rattle.tree.specs.Plain.{follow, OneTree}
 use Rattle.tree.specs.Boxes.{vertexFloat}
-use Rattle.tree.specs.Visits.{shown, visitedCount, Shown}
-use Rattle.tree.proofs.Paths.{kid, step, unstep, some-same}
-use Rattle.tree.proofs.Count.{shown-to, shown-from}
+use Rattle.tree.specs.Visits.{shown, visited, visitedCount, Shown}
+use Rattle.tree.proofs.Rule13.{kids}
+use Rattle.tree.proofs.Count.{shown-to, shown-from, visited-shown}
 use Rattle.floor.specs.Reader.{rule20, readerVerdict}
 use Rattle.floor.proofs.Order as reader
 use Rattle.floor.proofs.Meaning.{accepted-of, accepted-sound, sound-accepted}
@@ -38,7 +35,7 @@ use Rattle.query.specs.Points.{faceHolds, boxHolds, lowestFace, visitedN
 use Rattle.query.specs.Plain.{Askable, Holds, LowestHolding, BoxHolds, Ancestor, Visited, HowMany, Says}
 use Rattle.query.proofs.Nesting.{on-x, on-y, on-z}
 use Rattle.query.proofs.Replies.{rules29to30, by-groups, near-x, near-y, all-on-grid, ready, on-found, on-none}
-use Rattle.query.proofs.Walks.{kids, no-faces}
+use Rattle.query.proofs.Walks.{no-faces}
 use Rattle.query.proofs.Counting.{tally-counts, counts-same, counts-only}
 
 -- ---- what is not refused
@@ -109,21 +106,6 @@ module _ (p : Parts) (x y : ℤ) where
 
 -- ---- the nodes
 
-follow-append : (t : Nodes) (p q : List Bool) (n m k : ℕ) → follow t p n ≡ some m → follow t q m ≡ some k → follow t (p ++ q) n ≡ some k
-unfolding follow
-follow-append t [] q n m k e f = subst (λ (j : ℕ). follow t q j ≡ some k) (sym (some-same n m e)) f
-follow-append t (s ∷ p) q n m k e f = let (y, e′) = step t s p n m e in unstep t s (p ++ q) n k y (follow-append t p q (kid t s n) m k e′ f)
-
--- the root of a tree has no ancestors
-root-shown : (t : Nodes) (face : ℕ → ℕ) (root N F : ℕ) (h : ℕ → Bool) → root < N → OneTree t face root N F → Shown t h N root
-unfolding Shown follow
-root-shown t face root N F h under tree m l s q e =
-    let to = tree .paths m l in
-    let at = tree .paths root under in
-    let round = at .only (to .steps ++ (s ∷ q)) (follow-append t (to .steps) (s ∷ q) root m root (to .leads) e) in
-    let none = at .only [] refl in
-    absurd (omega (arith, length-append (to .steps) (s ∷ q), ap length round, ap length none))
-
 -- a box that holds x and y
 module _ (p : Parts) (x y : ℤ) (n : ℕ) where
   box-to : boxHolds p x y n ≡ true → BoxHolds p x y n
@@ -150,8 +132,8 @@ module _ (p : Parts) (x y : ℤ) (n : ℕ) where
 
 -- the number of nodes visited is the number of these: the root, and every node all of whose ancestors' boxes hold x and y
 pub visited-plain : (b : List ℕ) → Ready b → (x y : ℤ) → HowMany (partsOf b .nodes) (Visited (partsOf b) x y) (visitedNodes (partsOf b) x y)
-unfolding visitedNodes visitedCount
-visited-plain b r x y = counts-same to from (tally-counts N (shown t h N))
+unfolding visitedNodes visitedCount visited
+visited-plain b r x y = counts-same to from (tally-counts N (visited t h root N))
   where
     t : Nodes
     t = nodesOf (partsOf b)
@@ -159,17 +141,28 @@ visited-plain b r x y = counts-same to from (tally-counts N (shown t h N))
     h : ℕ → Bool
     h = boxHolds (partsOf b) x y
 
+    root : ℕ
+    root = partsOf b .root
+
     N : ℕ
     N = partsOf b .nodes
 
-    to : (i : ℕ) → i < N → shown t h N i ≡ true → Visited (partsOf b) x y i
-    to i l e = inr (all-hold (partsOf b) x y i (shown-to t (faceOf (partsOf b)) 0 N (partsOf b .faces) (omega arith) (kids b r) (r .floor .tree) h i l e))
+    -- where there is a node, the root is one
+    under : (i : ℕ) → i < N → root < N
+    under i l = r .floor .closed .root (omega arith)
 
-    from : (i : ℕ) → i < N → Visited (partsOf b) x y i → shown t h N i ≡ true
-    from i l (inl e) =
-        shown-from t (faceOf (partsOf b)) 0 N (partsOf b .faces) (omega arith) (kids b r) (r .floor .tree) h i l
-        (rw e (root-shown t (faceOf (partsOf b)) 0 N (partsOf b .faces) h (omega arith) (r .floor .tree)))
-    from i l (inr s) = shown-from t (faceOf (partsOf b)) 0 N (partsOf b .faces) (omega arith) (kids b r) (r .floor .tree) h i l (hold-all (partsOf b) x y i s)
+    as-shown : (i : ℕ) → i < N → visited t h root N i ≡ shown t h N i
+    as-shown i l = visited-shown t (faceOf (partsOf b)) root N (partsOf b .faces) (under i l) (kids (partsOf b) (r .floor .closed)) (r .floor .tree) h i l
+
+    to : (i : ℕ) → i < N → visited t h root N i ≡ true → Visited (partsOf b) x y i
+    to i l e =
+        inr (all-hold (partsOf b) x y i (shown-to t (faceOf (partsOf b)) root N (partsOf b .faces) (under i l) (kids (partsOf b) (r .floor .closed)) (r .floor .tree) h i l (sym (as-shown i l) ∙ e)))
+
+    from : (i : ℕ) → i < N → Visited (partsOf b) x y i → visited t h root N i ≡ true
+    from i l (inl e) = rw (eq-eqb i root e)
+    from i l (inr s) =
+        as-shown i l
+        ∙ shown-from t (faceOf (partsOf b)) root N (partsOf b .faces) (under i l) (kids (partsOf b) (r .floor .closed)) (r .floor .tree) h i l (hold-all (partsOf b) x y i s)
 
 -- ---- the answer
 

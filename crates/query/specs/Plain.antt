@@ -56,7 +56,7 @@ pub record Ancestor (t : Nodes) (m n : ℕ) : Type 0 where
 
 -- a node visited: the root, or one all of whose ancestors' boxes hold x and y
 abbrev pub Visited : Parts → ℤ → ℤ → ℕ → Type 0
-Visited p x y n = (n ≡ 0) ⊎ ((m : ℕ) → m < p .nodes → Ancestor (nodesOf p) m n → BoxHolds p x y m)
+Visited p x y n = (n ≡ p .root) ⊎ ((m : ℕ) → m < p .nodes → Ancestor (nodesOf p) m n → BoxHolds p x y m)
 
 -- k is how many numbers under n have a property: they stand in a list, each once and no other, that is k long
 pub record HowMany (n : ℕ) (P : ℕ → Type 0) (k : ℕ) : Type 0 where

@@ -41,7 +41,7 @@ lowestFace p x y = lowest (p .faces) (faceHolds p x y)
 
 -- the number of nodes visited: the root, and every node all of whose ancestors' boxes hold x and y
 unfoldable pub visitedNodes : Parts → ℤ → ℤ → ℕ
-visitedNodes p x y = visitedCount (nodesOf p) (boxHolds p x y) (p .nodes)
+visitedNodes p x y = visitedCount (nodesOf p) (boxHolds p x y) (p .root) (p .nodes)
 
 -- an answer: number, place, whether a face was found, the face (0 where none), the nodes visited; the last three are 0 on refusal.
 -- `face` is the lowest face, or the number of faces where there is none

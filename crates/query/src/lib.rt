@@ -254,7 +254,8 @@ fn walked(bytes: &[u8], x: i64, y: i64) -> Point
         return told(Seen { count: 0, face: 0 }, 0);
     }
     let at = spot_at(x, y);
-    let seen = look(bytes, at, 0, DEPTH);
+    let root = tables::root_of(bytes) as usize;
+    let seen = look(bytes, at, root, DEPTH);
     told(seen, faces)
 }
 

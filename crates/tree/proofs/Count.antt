@@ -2,7 +2,7 @@
 -- just the nodes all of whose ancestors pass. Assumes nothing.
 use Prim.Native.Nat.{ℕ, zero, suc, _+_, _<_, _≤_}
 use native.Mathlib.Omega.{arith}
-use native.Mathlib.Decide.{decLt}
+use native.Mathlib.Decide.{decLt, ℕ-discrete}
 use native.Mathlib.Nat.{eq-or-lt-of-le, le-of-suc-le-suc}
 use mathlib.Core.Path.{_≡_, refl, sym, ap, ap₂, subst, _∙_}
 use mathlib.Core.Logic.{⊎-elim}
@@ -19,7 +19,7 @@ use Rattle.verdict.proofs.Lists.{NoneFrom, none-head, none-tail}
 use Rattle.nodes.specs.Nodes.{Nodes}
 use Rattle.tree.specs.Tree.{ends}
 use Rattle.tree.specs.Plain.{follow, OnePath, OneTree}
-use Rattle.tree.specs.Visits.{above, shown, visitedCount, cut, Shown}
+use Rattle.tree.specs.Visits.{above, shown, visited, visitedCount, cut, Shown}
 use Rattle.tree.proofs.Deep.{Kids}
 use Rattle.tree.proofs.Paths.{kid, step, unstep, times-inner, times-leaf, times-start, reach, found, few, follow-below, some-same}
 use Rattle.tree.proofs.Sight.{cut-leaf, cut-shut, cut-go}
@@ -153,6 +153,11 @@ module _ (t : Nodes) (face : ℕ → ℕ) (root N F : ℕ) (under : root < N) (k
       omega arith)))
       (le-leb 1 (times k (ends t 64 m)) (reach t 64 m k (s ∷ q) e (let b = path k lk .short in omega arith)))
 
+  -- the root has no ancestors: a way back to it would be a second path
+  pub root-shown : (h : ℕ → Bool) → Shown t h N root
+  unfolding Shown follow
+  root-shown h m lm s q e = absurd (omega (arith, through-length m root lm under s q e, ap length (path root under .only [] refl)))
+
   module _ (h : ℕ → Bool) where
     -- the test `shown` is the plain statement
     pub shown-to : (k : ℕ) → k < N → shown t h N k ≡ true → Shown t h N k
@@ -176,7 +181,15 @@ module _ (t : Nodes) (face : ℕ → ℕ) (root N F : ℕ) (under : root < N) (k
         way m [] e ne lm = absurd (ne (some-same m k e))
         way m (s ∷ q) e ne lm = sh m lm s q e
 
-    -- a visited node has only ancestors that pass
+    -- the root is visited as a node whose ancestors, of which it has none, all pass
+    pub visited-shown : (k : ℕ) → k < N → visited t h root N k ≡ shown t h N k
+    unfolding visited
+    visited-shown k lk =
+        decided (ℕ-discrete k root)
+        (λ e. rw (eq-eqb k root e) (sym (shown-from k lk (rw e (root-shown h)))))
+        (λ e. rw (ne-eqb k root e))
+
+    -- a node that the walk sees has only ancestors that pass
     cut-shown : (k : ℕ) → k < N → 1 ≤ times k (ends (cut t h) 64 root) → Shown t h N k
     unfolding Shown
     cut-shown k lk one m lm s q e =
@@ -194,7 +207,7 @@ module _ (t : Nodes) (face : ℕ → ℕ) (root N F : ℕ) (under : root < N) (k
         let (y, e′) = step t false p n k e in
         unstep (cut t h) false p n k (cut-go t h n y (sh n lt false p e)) (keep k sh p (t .right n) (kids n lt y .1) e′)
 
-    -- and a node that has only such ancestors is visited
+    -- and a node that has only such ancestors is seen
     pub shown-cut : (k : ℕ) → k < N → Shown t h N k → 1 ≤ times k (ends (cut t h) 64 root)
     shown-cut k lk sh = reach (cut t h) 64 root k (path k lk .steps) (keep k sh (path k lk .steps) root under (path k lk .leads)) (path k lk .short)
 
@@ -202,14 +215,18 @@ module _ (t : Nodes) (face : ℕ → ℕ) (root N F : ℕ) (under : root < N) (k
     unfolding NoneFrom
     cut-within k le = let a = ends-within t N kids 64 root under k le in let b = times-cut t h k 64 root in omega arith
 
-    -- the walk's count is the number of nodes all of whose ancestors pass
-    pub count-law : length (ends (cut t h) 64 root) ≡ visitedCount t h N
-    unfolding visitedCount
-    count-law =
-        length-total N (ends (cut t h) 64 root) cut-within
-        ∙ (total-same N _ _ (λ k lk. test (shown t h N k)
+    -- a node all of whose ancestors pass is seen once, any other never
+    seen-once : (k : ℕ) → k < N → times k (ends (cut t h) 64 root) ≡ bit (shown t h N k)
+    seen-once k lk = test (shown t h N k)
         (λ y. let a = shown-cut k lk (shown-to k lk y) in let b = times-cut t h k 64 root in let c = ends-once k lk in omega (arith, ap bit y))
         (λ y. decided (decLt 0 (times k (ends (cut t h) 64 root)))
         (λ z. clash (shown-from k lk (cut-shown k lk z)) y)
-        (λ z. omega (arith, ap bit y))))
-        ∙ sym (tally-total N (shown t h N)))
+        (λ z. omega (arith, ap bit y)))
+
+    -- the walk's count is the number of nodes visited
+    pub count-law : length (ends (cut t h) 64 root) ≡ visitedCount t h root N
+    unfolding visitedCount
+    count-law =
+        length-total N (ends (cut t h) 64 root) cut-within
+        ∙ (total-same N _ _ (λ k lk. seen-once k lk ∙ ap bit (sym (visited-shown k lk)))
+        ∙ sym (tally-total N (visited t h root N)))

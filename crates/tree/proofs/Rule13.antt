@@ -1,7 +1,7 @@
 -- Clear, mark, look, clear: what the two halves of rule 13 answer and leave, and how they make the rule. Assumes nothing.
 use Prim.Native.Nat.{ℕ, _<_, _≤_}
 use native.Mathlib.Omega.{arith}
-use mathlib.Core.Path.{_≡_, ap, _∙_}
+use mathlib.Core.Path.{_≡_, sym, ap, _∙_}
 use mathlib.Core.Bool.{Bool, true, false, not, _&&_}
 use mathlib.Core.List.{List}
 use lib.ListN.{length, getD}
@@ -81,6 +81,12 @@ module _ (t : Nodes) (f : ℕ → ℕ) (root N F : ℕ) where
   pub one-some : (N ≡ 0 → ⊥) → oneTree t f root N F ≡ (not (deep t 64 root) && once N (ends t 64 root) && once F (leafFaces t f N))
   unfolding oneTree
   one-some h = rw (ne-eqb N 0 h)
+
+-- of a floor: both halves, the first asked from the node that the root field names
+pub both-halves : (p : Parts) → (p .nodes ≡ 0 → ⊥) → {root : ℕ} {a b : Bool} → root ≡ p .root
+    → a ≡ (not (deep (nodesOf p) 64 root) && once (p .nodes) (ends (nodesOf p) 64 root)) → b ≡ once (p .faces) (leafFaces (nodesOf p) (faceOf p) (p .nodes))
+    → (a && b) ≡ oneTree (nodesOf p) (faceOf p) (p .root) (p .nodes) (p .faces)
+both-halves p some e f g = rw (f, g, e) (sym (one-some (nodesOf p) (faceOf p) (p .root) (p .nodes) (p .faces) some))
 
 pub twice : (w w₁ w₂ : List ℕ) → w₁ ≡ clearedTo workSize w → w₂ ≡ clearedTo workSize w₁ → w₂ ≡ clearedTo workSize w
 twice w w₁ w₂ e₁ e₂ = e₂ ∙ (ap (clearedTo workSize) e₁ ∙ cleared-twice workSize w)

@@ -109,12 +109,12 @@ none-tree t face root N F n f = record { paths = λ k l. absurd (omega arith); l
 pub rule13-met : (p : Parts) → p .nodes ≡ 2 * p .faces - 1 → Closed p → rule13 p .number ≡ 0 → FloorTree p
 unfolding rule13
 rule13-met p e c z =
-    let t = not-false (oneTree (nodesOf p) (faceOf p) 0 (p .nodes) (p .faces)) (unbroken 12 _ 0 z) in
-    decided (ℕ-discrete (p .nodes) 0) (λ y. none-tree (nodesOf p) (faceOf p) 0 (p .nodes) (p .faces) y (omega arith))
-    (λ y. one-tree-to (nodesOf p) (faceOf p) 0 (p .nodes) (p .faces) (omega arith) (kids p c) t)
+    let t = not-false (oneTree (nodesOf p) (faceOf p) (p .root) (p .nodes) (p .faces)) (unbroken 12 _ 0 z) in
+    decided (ℕ-discrete (p .nodes) 0) (λ y. none-tree (nodesOf p) (faceOf p) (p .root) (p .nodes) (p .faces) y (omega arith))
+    (λ y. one-tree-to (nodesOf p) (faceOf p) (p .root) (p .nodes) (p .faces) (c .root (omega arith)) (kids p c) t)
 
 pub met-rule13 : (p : Parts) → Closed p → FloorTree p → rule13 p ≡ accepted
 unfolding rule13
 met-rule13 p c h =
-    rw (decided (ℕ-discrete (p .nodes) 0) (λ y. sym (one-none (nodesOf p) (faceOf p) 0 (p .nodes) (p .faces) y))
-    (λ y. one-tree-from (nodesOf p) (faceOf p) 0 (p .nodes) (p .faces) (omega arith) (kids p c) h)) (met 13 0)
+    rw (decided (ℕ-discrete (p .nodes) 0) (λ y. sym (one-none (nodesOf p) (faceOf p) (p .root) (p .nodes) (p .faces) y))
+    (λ y. one-tree-from (nodesOf p) (faceOf p) (p .root) (p .nodes) (p .faces) (c .root (omega arith)) (kids p c) h)) (met 13 0)

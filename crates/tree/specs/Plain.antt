@@ -37,9 +37,9 @@ pub record OneTree (t : Nodes) (face : ℕ → ℕ) (root N F : ℕ) : Type 0 wh
   pub paths : (n : ℕ) → n < N → OnePath t root n
   pub leaves : (f : ℕ) → f < F → OneLeaf t face N f
 
--- the same of a floor: its tree hangs from node 0
+-- the same of a floor: its tree hangs from the node that the root field names
 abbrev pub FloorTree : Parts → Type 0
-FloorTree p = OneTree (nodesOf p) (faceOf p) 0 (p .nodes) (p .faces)
+FloorTree p = OneTree (nodesOf p) (faceOf p) (p .root) (p .nodes) (p .faces)
 
 -- 14: a leaf's box holds its face's three corners, an inner node's box both children's
 pub record BoxesHold (p : Parts) : Type 0 where

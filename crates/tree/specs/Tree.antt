@@ -1,4 +1,5 @@
--- Rule 13: what makes nodes one tree. The root is a parameter; a floor's tree hangs from node 0. Definitions only.
+-- Rule 13: what makes nodes one tree. The root is a parameter; a floor's tree hangs from the node that its root field names (M-101).
+-- Definitions only.
 use Prim.Native.Nat.{ℕ, zero, suc}
 use mathlib.Core.Bool.{Bool, false, not, cond, _&&_, _||_}
 use mathlib.Core.List.{List, [], _∷_, _++_}
@@ -32,4 +33,4 @@ oneTree t face root N F =
 
 -- 13: not one tree
 unfoldable pub rule13 : Parts → Answer
-rule13 p = rule 13 (not (oneTree (nodesOf p) (faceOf p) 0 (p .nodes) (p .faces))) 0
+rule13 p = rule 13 (not (oneTree (nodesOf p) (faceOf p) (p .root) (p .nodes) (p .faces))) 0

@@ -20,9 +20,13 @@ above t m n = not (eqb m n) && leb 1 (times n (ends t 64 m))
 unfoldable pub shown : Nodes → (ℕ → Bool) → ℕ → ℕ → Bool
 shown t h N n = allUnder N (λ m. not (above t m n) || h m)
 
--- the number of nodes visited: those all of whose ancestors pass
-unfoldable pub visitedCount : Nodes → (ℕ → Bool) → ℕ → ℕ
-visitedCount t h N = tally N (shown t h N)
+-- n is visited: it is the root, or all its ancestors pass
+unfoldable pub visited : Nodes → (ℕ → Bool) → ℕ → ℕ → ℕ → Bool
+visited t h root N n = eqb n root || shown t h N n
+
+-- the number of nodes visited: the root, and every node all of whose ancestors pass
+unfoldable pub visitedCount : Nodes → (ℕ → Bool) → ℕ → ℕ → ℕ
+visitedCount t h root N = tally N (visited t h root N)
 
 -- the shape as the walk sees it: below a node that does not pass there is nothing
 unfoldable pub cut : Nodes → (ℕ → Bool) → Nodes

@@ -107,18 +107,19 @@ fn covers(bytes: &[u8], work: &mut [u8]) -> bool
     if apart { full } else { false }
 }
 
-// 13: whether the nodes, hanging from node 0, are one tree.
+// 13: whether the nodes, hanging from the one that the root field names, are one tree.
 fn one_tree(bytes: &[u8], work: &mut [u8]) -> bool
     requires closed { ⌜ RightHeader (now bytes) × Closed (partsOf (now bytes)) ⌝ }
     requires room { ⌜ workSize ≤ length (now work) ⌝ }
-    ensures answer { λ r. ⌜ r ≡ oneTree (nodesOf (partsOf (now (bytes .entry)))) (faceOf (partsOf (now (bytes .entry)))) 0 (partsOf (now (bytes .entry)) .nodes) (partsOf (now (bytes .entry)) .faces) ⌝ }
+    ensures answer { λ r. ⌜ r ≡ oneTree (nodesOf (partsOf (now (bytes .entry)))) (faceOf (partsOf (now (bytes .entry)))) (partsOf (now (bytes .entry)) .root) (partsOf (now (bytes .entry)) .nodes) (partsOf (now (bytes .entry)) .faces) ⌝ }
     ensures memory { λ _. ⌜ now (work .exit) ≡ clearedTo workSize (now (work .entry)) ⌝ }
 {
     if nodes::node_count(bytes) == 0 {
         verdict::clear(work);
         return true;
     }
-    let nodes = spans(bytes, work, 0);
+    let root = tables::root_of(bytes) as usize;
+    let nodes = spans(bytes, work, root);
     let leaves = covers(bytes, work);
     if nodes { leaves } else { false }
 }

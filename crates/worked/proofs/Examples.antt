@@ -28,9 +28,9 @@ use Rattle.tables.specs.Fixed.{startOf, formOf}
 use Rattle.tables.proofs.Right.{wrong-long}
 use Rattle.mesh.specs.Floats.{wild, wildHead, wildIn, rule7In, rule7}
 use Rattle.mesh.specs.Faces.{wrongCorner, wrongCorners, walkable, strange, misplaced, rule8, rule9, rule10}
-use Rattle.nodes.specs.Nodes.{nodesOf, isPlane, isLeaf, isInner, neither, rule11, rule12}
+use Rattle.nodes.specs.Nodes.{nodesOf, isPlane, isLeaf, isInner, neither, strayRoot, rule11, rule12}
 use Rattle.tree.specs.Tree.{ends, deep, leafFaces, oneTree, rule13}
-use Rattle.tree.specs.Visits.{visitedCount, shown, above}
+use Rattle.tree.specs.Visits.{visitedCount, visited, shown, above}
 use Rattle.tree.specs.Boxes.{boxOf, holdsCorner, holdsFace, holdsChildren, tooSmall, rule14}
 use Rattle.pairs.specs.Halves.{from, to, runs, repeats, partner, border, pairing, wrongAdjacent, rule15, rule16}
 use Rattle.border.specs.Loops.{standsIn, wrongEdge, missing, rule17, wrongTransition, rule18, loopStart, after, openAt, openRun, wrongLoop, rule19}
@@ -124,9 +124,9 @@ unfolding worked triangle square tested quick gives same
     rewriteAnswer rewriteMemory rewriteVerdict fixedForm formAnswer formMemory over formOf startOf joined
     readerAnswer answerOf readerVerdict readerRules partRules walkableFaces rule20 rule1 rule2 rule3 rule4 limit rule5 rule6 wrongLength startsWrong differs outsideAt outside spanOf shares sharesEarlier
     partsOf tableWords wordOf wordPlace rule7 rule7In wild wildHead wildIn finite ofBits rule8 wrongCorners wrongCorner rule9 strange rule10 misplaced walkable
-    rule11 rule12 neither isLeaf isInner isPlane nodesOf rule13 oneTree deep ends leafFaces rule14 tooSmall holdsChildren holdsFace holdsCorner boxOf boxOfBits holdsPoint holdsBox between noneOver le lt eq
+    rule11 strayRoot rule12 neither isLeaf isInner isPlane nodesOf rule13 oneTree deep ends leafFaces rule14 tooSmall holdsChildren holdsFace holdsCorner boxOf boxOfBits holdsPoint holdsBox between noneOver le lt eq
     rule15 rule16 repeats partner runs from to wrongAdjacent pairing border rule17 standsIn wrongEdge missing rule18 wrongTransition rule19 wrongLoop loopStart openRun openAt after
-    pointAnswer pointOf replyOf queryVerdict queryRules rule29 rule30 offGrid lowestFace faceHolds cornerAt boxHolds holdsXY visitedNodes visitedCount shown above
+    pointAnswer pointOf replyOf queryVerdict queryRules rule29 rule30 offGrid lowestFace faceHolds cornerAt boxHolds holdsXY visitedNodes visitedCount visited shown above
     step run editStep editVerdict editRules commonVerdict headerVerdict headerRules fieldRules inOrder rule28 badSession rule21 full unless areaCount areaField lay put recordBytes permitted
     inTriangle sides allLeft allRight cross size64 mayNudge nudgeBits onGrid scaled gridFloat toBits round
 computed = tt

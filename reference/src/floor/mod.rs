@@ -50,7 +50,7 @@ fn check(bytes: &[u8]) -> Checked<Tables<'_>> {
     mesh::walkable_come_first(&tables)?; // 10
     tree::counts_are_right(&tables)?; // 11
     let nodes = tree::nodes(&tables)?; // 12
-    tree::is_one_tree(&nodes, tables.count(Table::Faces))?; // 13
+    tree::is_one_tree(&nodes, tree::root(&tables), tables.count(Table::Faces))?; // 13
     tree::boxes_are_large_enough(&nodes, &tables)?; // 14
     let partners = border::partners(&tables)?; // 15
     border::adjacency_is_right(&tables, &partners)?; // 16

@@ -17,12 +17,31 @@ pub enum Node {
     Inner { left: usize, right: usize },
 }
 
-/// Rule 11: the node count is 2F-1 (0 without faces); else the root is 0, without faces too.
+/// Rule 11: the node count is 2F-1 (0 without faces); else, where there are nodes, the root is one of
+/// them (M-101). Without faces the root field says nothing.
 pub fn counts_are_right(tables: &Tables) -> Checked<()> {
     let faces = tables.count(Table::Faces);
+    let nodes = tables.count(Table::Nodes);
     let wanted = if faces == 0 { 0 } else { 2 * faces - 1 };
-    refuse_if(tables.count(Table::Nodes) != wanted, 11, 100)?;
-    refuse_if(word_at(tables.bytes, ROOT_FIELD) != 0, 11, ROOT_FIELD)
+    refuse_if(nodes != wanted, 11, 100)?;
+    let wrong = match nodes {
+        0 => planted(Fault::RootOfNone) && root_field(tables) != 0,
+        _ => root_field(tables) >= nodes,
+    };
+    refuse_if(wrong, 11, ROOT_FIELD)
+}
+
+/// What the root field says.
+fn root_field(tables: &Tables) -> usize {
+    word_at(tables.bytes, ROOT_FIELD) as usize
+}
+
+/// The node that the tree hangs from, in a floor whose rule 11 has passed.
+pub fn root(tables: &Tables) -> usize {
+    match planted(Fault::RootFirst) {
+        true => 0,
+        false => root_field(tables),
+    }
 }
 
 /// Rule 12: every node is a leaf or an inner node. Gives them all.
@@ -59,25 +78,25 @@ fn node_at(tables: &Tables, node: usize) -> Option<Node> {
     })
 }
 
-/// Rule 13: one tree, from root 0. Without faces there are no nodes, and nothing to reach.
-pub fn is_one_tree(nodes: &[Node], faces: usize) -> Checked<()> {
+/// Rule 13: one tree, from the root. Without faces there are no nodes, and nothing to reach.
+pub fn is_one_tree(nodes: &[Node], root: usize, faces: usize) -> Checked<()> {
     if nodes.is_empty() {
         return Ok(());
     }
     let passes = match planted(Fault::NodesNotPaths) {
-        true => each_is_a_child_once(nodes),
-        false => one_path_to_each(nodes, faces),
+        true => each_is_a_child_once(nodes, root),
+        false => one_path_to_each(nodes, root, faces),
     };
     refuse_if(!passes, 13, 0)
 }
 
 /// Every node is reached by exactly one path, none too deep, and every face stands in one leaf.
 /// Walking every path stops at the first node met twice, so a ring cannot hold it up.
-fn one_path_to_each(nodes: &[Node], faces: usize) -> bool {
+fn one_path_to_each(nodes: &[Node], root: usize, faces: usize) -> bool {
     let deepest = DEEPEST + usize::from(planted(Fault::DepthSixtyFive));
     let mut reached = vec![false; nodes.len()];
     let mut stands = vec![false; faces];
-    let mut paths = vec![(0, 0)];
+    let mut paths = vec![(root, 0)];
     while let Some((node, steps)) = paths.pop() {
         if steps > deepest || reached[node] {
             return false;
@@ -96,7 +115,7 @@ fn one_path_to_each(nodes: &[Node], faces: usize) -> bool {
 }
 
 /// The planted fault: every node but the root is somebody's child once, reached or not.
-fn each_is_a_child_once(nodes: &[Node]) -> bool {
+fn each_is_a_child_once(nodes: &[Node], root: usize) -> bool {
     let mut parents = vec![0; nodes.len()];
     for node in nodes {
         if let Node::Inner { left, right } = *node {
@@ -104,7 +123,8 @@ fn each_is_a_child_once(nodes: &[Node]) -> bool {
             parents[right] += 1;
         }
     }
-    parents[0] == 0 && parents[1..].iter().all(|&count| count == 1)
+    parents[root] += 1;
+    parents.iter().all(|&count| count == 1)
 }
 
 /// Least and greatest x, y, z.

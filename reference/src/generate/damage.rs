@@ -190,14 +190,14 @@ fn not_finite(bytes: &mut [u8], random: &mut Random) {
 
 fn damage_model(model: &mut Model, random: &mut Random, aim: u32) {
     if model.faces.is_empty() {
-        model.root = random.pick(&[0, 1, NONE]); // 11 at 108, also without faces
+        model.nodes.push([0; 11]); // 11 at 100, whatever the root
         return;
     }
     match aim {
         8 => wrong_corner(model, random),
         9 => *any(&mut model.materials, random) = random.pick(&[23, 24, 255, 256, NONE]),
         10 => wrong_walkability(model, random),
-        11 => wrong_node_count(model, random),
+        11 => wrong_count_or_root(model, random),
         12 => wrong_node(model, random),
         13 => wrong_tree(model, random),
         14 => small_box(model, random),
@@ -240,13 +240,18 @@ fn wrong_walkability(model: &mut Model, random: &mut Random) {
     }
 }
 
-fn wrong_node_count(model: &mut Model, random: &mut Random) {
-    match random.under(6) {
+/// A wrong number of nodes; a root that is no node, from the first such number on; or another node
+/// for the root, which then reaches a part of the tree only.
+fn wrong_count_or_root(model: &mut Model, random: &mut Random) {
+    let nodes = model.nodes.len() as u32;
+    match random.under(8) {
         0 => drop(model.nodes.pop()),
         1 => model.nodes.push(model.nodes[0]),
         2 => model.nodes.clear(),
-        3 => model.root = model.nodes.len() as u32,
-        _ => model.root = random.pick(&[1, 2, NONE]),
+        3 | 4 => model.root = nodes,
+        5 => model.root = random.pick(&[nodes + 1, 8_191, 0x8000_0000, NONE]),
+        6 => model.root = model.root.wrapping_add(1),
+        _ => model.root = random.under(model.nodes.len()) as u32,
     }
 }
 

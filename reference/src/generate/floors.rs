@@ -251,10 +251,11 @@ fn add_materials(model: &mut Model, random: &mut Random, unwalkable: usize) {
     model.adjacency = vec![[NONE; 3]; walkable];
 }
 
-/// Adds the tree: the root is node 0, the others have any numbers.
+/// Adds the tree: its nodes have any numbers, the root too.
 fn add_tree(model: &mut Model, random: &mut Random, wish: Wish) {
     let mut faces: Vec<u32> = (0..model.faces.len() as u32).collect();
     if faces.is_empty() {
+        model.root = random.pick(&[0, 0, 1, NONE]); // without nodes the field says nothing
         return;
     }
     if wish.tree == TreeShape::Near {
@@ -262,19 +263,22 @@ fn add_tree(model: &mut Model, random: &mut Random, wish: Wish) {
     } else {
         random.shuffle(&mut faces);
     }
-    let mut numbers: Vec<u32> = (1..2 * faces.len() as u32 - 1).collect();
-    match random.once_in(2) {
-        true => random.shuffle(&mut numbers),
-        false => numbers.reverse(),
+    let mut numbers: Vec<u32> = (0..2 * faces.len() as u32 - 1).collect();
+    match random.under(3) {
+        0 => numbers.reverse(), // the root first
+        1 => (),                // the root last
+        _ => random.shuffle(&mut numbers),
     }
-    model.nodes = vec![[0; 11]; 2 * faces.len() - 1];
+    model.nodes = vec![[0; 11]; numbers.len()];
+    let root = numbers.pop().unwrap_or(0);
+    model.root = root;
     let mut grower = Grower {
         model,
         random,
         numbers,
         shape: wish.tree,
     };
-    grower.grow(0, &faces, wish.deepest);
+    grower.grow(root, &faces, wish.deepest);
 }
 
 /// Builds a tree from the root down and its boxes from the leaves up.

@@ -1,6 +1,6 @@
 -- Rules 11 and 12, one after another. Assumes nothing.
 use borrow.Author.Needs.{needs}
-use mathlib.Core.Path.{_≡_, refl, ap}
+use mathlib.Core.Path.{_≡_, refl}
 use mathlib.Core.Bool.{not}
 use Prim.Native.Nat.{ℕ, _*_, _-_}
 use lib.Dec.{eqb, ltb}
@@ -28,7 +28,7 @@ returns c =
     let count = first .before .before .before in
     let n = count .node-count .ensures .0 in
     next-in _ _ (next-in _ _ (next refl (count-by n (first .before .before .face-count .ensures .0) (first .before .nodes-for .ensures)) (first .then-rule .ensures))
-    (tested 11 108 (ap (λ (w : ℕ). not (eqb w 0)) (second .before .root-of .ensures))) (second .then-rule2 .ensures))
+    (tested 11 108 (second .before .is-root-stray .ensures)) (second .then-rule2 .ensures))
     (neither-by _ n (c .before .first-neither .ensures .0)) (c .then-rule3 .ensures)
 
 pub then-nodes-spec : {M : Type 1} → statement M
