@@ -27,7 +27,7 @@
 
 /* Work memory that the calls over a floor ask for; bytes of a journal's record, and the most records kept;
    the longest text; how many rooms a layout has at most. */
-#define WP_WORK 16384u
+#define WP_WORK 65536u
 #define WP_RECORD 15u
 #define WP_RECORDS 4096u
 #define WP_TEXT 65536u

@@ -1,4 +1,4 @@
-// calls.cpp: the fuzz target over the exported calls. An input is a head of 26 bytes that chooses the call, how its
+// calls.cpp: the fuzz target over the exported calls. An input is a head of 28 bytes that chooses the call, how its
 // slices lie and what its numbers are, and then the slices' bytes (seeds.py writes such inputs). After each call the
 // answer and all lent memory are held to what document 01 says without a second implementation at hand: refusals change
 // nothing, work memory comes back cleared, forms read back, edits are undone to the byte.
@@ -107,7 +107,9 @@ struct Game {
     void deal(Input input) {
         now = input.number(1) % calls;
         const std::uint32_t lie = input.number(1);
-        const std::uint32_t work_length = input.number(2), out_length = input.number(2);
+        // WP_WORK does not fit into two bytes; what four bytes say is brought down to what a slot has room for.
+        const std::size_t work_length = input.number(4) % (room - guard);
+        const std::uint32_t out_length = input.number(2);
         const std::uint32_t second_length = input.number(2), third_length = input.number(2);
         f = input.number(4), k = input.number(4), a = input.number(4), b = input.number(4);
         third.lay(input.take(third_length % 64), (lie & 1) != 0);

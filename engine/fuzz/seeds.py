@@ -1,5 +1,5 @@
 #!/usr/bin/env python3
-"""Writes the fuzz target's first inputs: seeds.py FOLDER. Each is a head of 26 bytes and then the slices, as calls.cpp reads
+"""Writes the fuzz target's first inputs: seeds.py FOLDER. Each is a head of 28 bytes and then the slices, as calls.cpp reads
 them: the sample floors under every call over a floor, small journals, and texts that read and texts that do not."""
 import importlib.util, pathlib, struct, sys
 
@@ -11,8 +11,8 @@ make = importlib.util.module_from_spec(spec)
 spec.loader.exec_module(make)
 
 
-def case(call, first, second=b"", third=b"", f=0, k=0, a=0, b=0, work=16384, out=4096, lie=0b10110):
-    head = struct.pack("<BBHHHHIIII", call, lie, work, out, len(second), len(third), f, k, a & make.NONE, b & make.NONE)
+def case(call, first, second=b"", third=b"", f=0, k=0, a=0, b=0, work=65536, out=4096, lie=0b10110):
+    head = struct.pack("<BBIHHHIIII", call, lie, work, out, len(second), len(third), f, k, a & make.NONE, b & make.NONE)
     return head + third + second + first
 
 
@@ -54,8 +54,9 @@ def cases():
         yield case(PAINT, data, bytes(30), f=2, k=1, a=0, b=5)
         yield case(NUDGE, make.changed(data, 12, 0x80000000), bytes(15), a=0, b=0)
         yield case(NUDGE, make.changed(data, 12, 0x80000000), bytes(15), a=0, b=1)
-        yield case(READ, data, work=16383)
-        yield case(READ, data, work=20000, lie=9)
+        yield case(READ, data, work=16384)
+        yield case(READ, data, work=65535)
+        yield case(READ, data, work=70000, lie=9)
         yield case(REWRITE, data, out=len(data) - 1)
         journal = record(1, 0, 4, 5) + record(2, 0, make.NONE, 7) + record(3, 0, 0, 0x3F800000)
         edited = make.changed(data, 12, 0x3F800000)

@@ -5,6 +5,7 @@ use crate::calls::Calls;
 use crate::fault::{self, Fault};
 use crate::floor::tables::{Table, FIELDS, ROOT_FIELD};
 use crate::generate::cases::{case, Call, Case, Lent};
+use crate::generate::damage::LARGE;
 use crate::generate::sessions::{Move, Play};
 use crate::journal::{LINK, PAINT};
 use crate::words::word_at;
@@ -166,6 +167,10 @@ pub struct Tally {
     /// Floors with nodes that a call over a whole floor accepted, and those of them whose root is not node 0.
     pub with_tree: usize,
     pub with_another_root: usize,
+    /// How many floors of at least `LARGE` faces were accepted or refused by 15 or 16, by that number, and how many of
+    /// them were refused at the last half-edge.
+    pub large: BTreeMap<u64, usize>,
+    pub large_at_last: BTreeMap<u64, usize>,
     pub cases: u64,
     pub different: u64,
 }
@@ -180,14 +185,16 @@ impl Tally {
             if let ("place", place) = one.fields[1] {
                 self.places.entry(number).or_default().insert(place);
             }
-            self.add_root(one);
+            if matches!(one.call, "read" | "rewrite" | "query" | "link_check") {
+                self.add_root(one);
+                self.add_large(one);
+            }
         }
     }
 
     /// Looks where the tree of an accepted floor hangs. The journal's calls ask nothing of the tree.
     fn add_root(&mut self, one: &Done) {
-        let whole = matches!(one.call, "read" | "rewrite" | "query" | "link_check");
-        if !whole || one.fields[0].1 != 0 {
+        if one.fields[0].1 != 0 {
             return;
         }
         let floor = &one.memory[0].1[GUARD..];
@@ -197,13 +204,29 @@ impl Tally {
         }
     }
 
+    /// Looks whether rules 15 and 16 had much to search, and whether all the way.
+    fn add_large(&mut self, one: &Done) {
+        let (number, place) = (one.fields[0].1, one.fields[1].1);
+        if !matches!(number, 0 | 15 | 16) {
+            return;
+        }
+        let floor = &one.memory[0].1[GUARD..];
+        let count = |table: Table| word_at(floor, FIELDS[table as usize].count) as u64;
+        if count(Table::Faces) >= LARGE as u64 {
+            *self.large.entry(number).or_default() += 1;
+            if number != 0 && place + 1 == 3 * count(Table::Adjacency) {
+                *self.large_at_last.entry(number).or_default() += 1;
+            }
+        }
+    }
+
     /// How often a number was answered.
     pub fn answered(&self, number: u64) -> usize {
         let by_call = self.numbers.get(&number);
         by_call.map_or(0, |by_call| by_call.values().sum())
     }
 
-    /// Both tables, the roots and the last line.
+    /// Both tables, the roots, the large floors and the last line.
     pub fn print(&self) {
         println!("{:<16}{:>9}", "call", "calls");
         for (call, count) in &self.calls {
@@ -224,6 +247,10 @@ impl Tally {
         println!(
             "\naccepted floors with a tree {}, of which with another root than 0 {}",
             self.with_tree, self.with_another_root
+        );
+        println!(
+            "floors of {LARGE} faces and more by number {:?}, of which at the last half-edge {:?}",
+            self.large, self.large_at_last
         );
         println!("{} cases, {} differences", self.cases, self.different);
     }

@@ -30,6 +30,10 @@ pub enum Fault {
     StoppedPutBack,
     /// Work memory left as it was.
     WorkKept,
+    /// Work memory of the old size that passes, and so much of it zero on return.
+    OldWork,
+    /// An adjacency entry that passes for the partner if it is any half-edge's number.
+    AnyPartner,
     /// A tree that hangs from node 0 whatever the root field says.
     RootFirst,
     /// A root field that must be 0 where there are no nodes.
@@ -37,7 +41,7 @@ pub enum Fault {
 }
 
 /// All faults with the names by which they are asked for.
-pub const FAULTS: [(&str, Fault); 14] = [
+pub const FAULTS: [(&str, Fault); 16] = [
     ("minus-zero", Fault::MinusZero),
     ("full-by-f", Fault::FullByF),
     ("children-from-one", Fault::ChildrenFromOne),
@@ -50,6 +54,8 @@ pub const FAULTS: [(&str, Fault); 14] = [
     ("case-counts", Fault::CaseCounts),
     ("stopped-put-back", Fault::StoppedPutBack),
     ("work-kept", Fault::WorkKept),
+    ("old-work", Fault::OldWork),
+    ("any-partner", Fault::AnyPartner),
     ("root-first", Fault::RootFirst),
     ("root-of-none", Fault::RootOfNone),
 ];

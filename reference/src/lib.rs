@@ -1,7 +1,9 @@
 //! Document 01 once more, written from the paper alone: floors, queries, journals, layouts and sight.
 //! It favours plain data and visible rules over speed, so that it can judge another implementation.
+//! Only `sorted` is written for speed: its times are what others are compared with.
 
 pub mod answer;
+pub mod bench;
 pub mod calls;
 pub mod caption;
 pub mod compare;
@@ -15,5 +17,6 @@ pub mod layout;
 pub mod links;
 pub mod query;
 pub mod sight;
+pub mod sorted;
 pub mod text;
 pub mod words;

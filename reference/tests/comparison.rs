@@ -10,8 +10,11 @@ use reference::fault::FAULTS;
 use reference::floor;
 use reference::form;
 use reference::generate::cases::{case, Call, Case};
-use reference::generate::floors::{any_wish, crowded, floor as make, large};
+use reference::generate::finish::shuffle_faces;
+use reference::generate::floors::{any_wish, floor as make};
+use reference::generate::pair_damage::{forget_or_invent, repeat_last};
 use reference::generate::random::Random;
+use reference::generate::shapes::{crowded, large, shape, Shape, SHAPES};
 use reference::generate::texts;
 use reference::{layout, sight};
 
@@ -102,6 +105,62 @@ fn trees_hang_from_any_node() {
         "{}",
         tally.with_another_root
     );
+}
+
+#[test]
+fn large_floors_meet_rules_15_and_16() {
+    let tally = compare(20_000, 6, [&HONEST, &HONEST], |_| (), |_, _| ());
+    for number in [0, 15, 16] {
+        let met = tally.large.get(&number).copied().unwrap_or(0);
+        assert!(met >= 5, "{number}: {met}");
+    }
+    for number in [15, 16] {
+        let met = tally.large_at_last.get(&number).copied().unwrap_or(0);
+        assert!(met >= 1, "{number}: {met}");
+    }
+}
+
+#[test]
+fn every_shape_is_accepted_or_refused_at_its_last_half_edge() {
+    let mut random = Random::new(13);
+    for kind in SHAPES {
+        for (faces, unwalkable) in [(8, 0), (64, 3), (500, 0), (4_096, 0), (4_096, 9)] {
+            let mut model = shape(&mut random, kind, faces, unwalkable);
+            assert_eq!(model.faces.len(), faces);
+            assert_eq!(verdict(&model), (0, 0), "{kind:?} {faces}");
+            shuffle_faces(&mut model, &mut random);
+            assert_eq!(verdict(&model), (0, 0), "{kind:?} {faces}, shuffled");
+            let last = 3 * model.adjacency.len() as u32 - 1;
+            forget_or_invent(&mut model, last as usize);
+            assert_eq!(verdict(&model), (16, last), "{kind:?} {faces}");
+            if faces > 8 {
+                repeat_last(&mut model, &mut random);
+                assert_eq!(verdict(&model), (15, last), "{kind:?} {faces}");
+            }
+        }
+    }
+}
+
+/// How many half-edges are passed if each is put behind those of its chain (a + 517 b) % 16,384.
+fn steps_along_chains(kind: Shape) -> usize {
+    let mut lengths = vec![0; 16_384];
+    let mut steps = 0;
+    for [a, b, c] in shape(&mut Random::new(1), kind, 4_096, 0).faces {
+        for (from, to) in [(a, b), (b, c), (c, a)] {
+            let length = &mut lengths[(from as usize + 517 * to as usize) % 16_384];
+            steps += *length;
+            *length += 1;
+        }
+    }
+    steps
+}
+
+#[test]
+fn colliding_half_edges_make_long_chains() {
+    assert!(steps_along_chains(Shape::Colliding) > 3_000_000);
+    for kind in [Shape::Grid, Shape::Fan, Shape::Strip] {
+        assert!(steps_along_chains(kind) < 10_000, "{kind:?}");
+    }
 }
 
 #[test]

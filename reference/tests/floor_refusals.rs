@@ -322,16 +322,16 @@ fn refusal_19_edges_left_over() {
 #[test]
 fn refusal_20_work_memory() {
     let bytes = triangle().in_order();
-    for length in [0, 16_383] {
+    for length in [0, 16_384, 65_535] {
         let mut work = vec![0xEE; length];
         assert_eq!(floor::read(&bytes, &mut work).number, 20);
         assert_eq!(floor::read(&[], &mut work).number, 20); // before rule 1
         assert!(work.iter().all(|&byte| byte == 0xEE));
     }
-    let mut work = vec![0xEE; 16_390];
+    let mut work = vec![0xEE; 65_542];
     assert_eq!(floor::read(&bytes, &mut work).number, 0);
-    assert!(work[..16_384].iter().all(|&byte| byte == 0));
-    assert_eq!(work[16_384..], [0xEE; 6]);
+    assert!(work[..65_536].iter().all(|&byte| byte == 0));
+    assert_eq!(work[65_536..], [0xEE; 6]);
 }
 
 #[test]

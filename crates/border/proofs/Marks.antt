@@ -3,35 +3,24 @@
 use mathlib.Core.Path.{_≡_, refl, sym, ap, subst, _∙_}
 use mathlib.Core.Bool.{Bool, false}
 use mathlib.Core.List.{List}
-use mathlib.Core.Logic.{⊎-elim}
 use Prim.Native.Nat.{ℕ, zero, suc, _+_, _<_, _≤_}
 use native.Mathlib.Omega.{arith}
 use native.Mathlib.Numerals.{add-one}
-use native.Mathlib.Nat.{eq-or-lt-of-le, le-of-suc-le-suc}
 use lib.Dec.{eqb}
 use lib.ListN.{length, getD, set, drop, length-set}
 use lib.Seq.{drop-set-lt, getD-set-same, getD-set-other}
 use borrow.Author.Tests.{eqb-true, eqb-false}
-use Rattle.verdict.specs.Lowest.{lowest, anyUnder}
-use Rattle.verdict.specs.Memory.{workSize, clearedTo, isMarked}
+use Rattle.verdict.specs.Lowest.{lowest}
+use Rattle.verdict.specs.Memory.{clearedTo, isMarked}
 use Rattle.verdict.proofs.Bools.{clash, test}
-use Rattle.verdict.proofs.Lowest.{lowest-is, some-under, found-under, none-under, under-none}
+use Rattle.verdict.proofs.Lowest.{lowest-is, some-under, under-none, any-more}
 use Rattle.verdict.proofs.Marks.{is-marked, not-marked}
-use Rattle.verdict.proofs.Memory.{length-cleared, getD-cleared, drop-cleared, cleared-same}
+use Rattle.verdict.proofs.Memory.{length-cleared, getD-cleared}
 use Rattle.tables.specs.Parts.{Parts, edgeOf}
 use Rattle.pairs.specs.Halves.{halves, border}
 use Rattle.pairs.proofs.Halves.{border-in}
 use Rattle.border.specs.Loops.{standsIn, wrongEdge, missing}
 use Rattle.border.specs.Memory.{marksOf, wrongBy, unmarked}
-
--- one number more, of which the test does not hold
-any-more : (t : ℕ → Bool) (n : ℕ) → t n ≡ false → anyUnder (suc n) t ≡ anyUnder n t
-any-more t n e =
-    test (anyUnder n t)
-    (λ y. let f = found-under t n y in some-under t (suc n) (lowest n t) (omega (arith, f .0)) (f .1) ∙ sym y)
-    (λ y. under-none t (suc n)
-    (λ j l. ⊎-elim (λ (q : j ≡ n). subst (λ (k : ℕ). t k ≡ false) (sym q) e) (λ (q : j < n). none-under t n y j q) (eq-or-lt-of-le (le-of-suc-le-suc l)))
-    ∙ sym y)
 
 mark-same : (u v : List ℕ) (k : ℕ) → getD u k 0 ≡ getD v k 0 → isMarked u k ≡ isMarked v k
 unfolding isMarked
@@ -51,15 +40,11 @@ module _ (p : Parts) where
   length-marks zero w = refl
   length-marks (suc n) w = simp length-set (length-marks n w)
 
-  drop-marks : (k n : ℕ) (w : List ℕ) → ((j : ℕ) → j < n → edgeOf p j < k) → drop k (marksOf p n w) ≡ drop k w
+  pub drop-marks : (k n : ℕ) (w : List ℕ) → ((j : ℕ) → j < n → edgeOf p j < k) → drop k (marksOf p n w) ≡ drop k w
   unfolding marksOf
   drop-marks k zero w f = refl
   drop-marks k (suc n) w f =
       drop-set-lt k (marksOf p n w) (edgeOf p n) 1 (f n (omega arith)) ∙ drop-marks k n w (λ j l. f j (omega arith))
-
-  -- clear, mark, clear: as cleared once
-  pub cleared-marks : (k n : ℕ) (w : List ℕ) → ((j : ℕ) → j < n → edgeOf p j < k) → clearedTo k (marksOf p n (clearedTo k w)) ≡ clearedTo k w
-  cleared-marks k n w f = cleared-same k w (marksOf p n (clearedTo k w)) (drop-marks k n (clearedTo k w) f ∙ drop-cleared k w)
 
   -- the entries before the first wrong one are half-edges
   pub edge-in : (i : ℕ) → wrongEdge p i ≡ false → edgeOf p i < halves p
@@ -69,15 +54,15 @@ module _ (p : Parts) where
   pub edges-before : (n i : ℕ) → i < lowest n (wrongEdge p) → edgeOf p i < halves p
   edges-before n i l = edge-in i (lowest-is (wrongEdge p) n .before i l)
 
-  module _ (w x : List ℕ) (long : workSize ≤ length w) (z : x ≡ clearedTo workSize w) where
-    long-still : workSize ≤ length x
-    long-still = omega (arith, ap (λ (v : List ℕ). length v) z, length-cleared workSize w long)
+  module _ (w x : List ℕ) (long : halves p ≤ length w) (z : x ≡ clearedTo (halves p) w) where
+    long-still : halves p ≤ length x
+    long-still = omega (arith, ap (λ (v : List ℕ). length v) z, length-cleared (halves p) w long)
 
-    zero-byte : (h : ℕ) → h < workSize → getD x h 0 ≡ 0
-    zero-byte h l = ap (λ (v : List ℕ). getD v h 0) z ∙ getD-cleared workSize w h l
+    zero-byte : (h : ℕ) → h < halves p → getD x h 0 ≡ 0
+    zero-byte h l = ap (λ (v : List ℕ). getD v h 0) z ∙ getD-cleared (halves p) w h l
 
     -- a byte is marked exactly if its number stands in the first n entries
-    pub marks-at : (n h : ℕ) → h < workSize → isMarked (marksOf p n x) h ≡ standsIn p n h
+    pub marks-at : (n h : ℕ) → h < halves p → isMarked (marksOf p n x) h ≡ standsIn p n h
     unfolding marksOf standsIn
     marks-at zero h b = not-marked x h (zero-byte h b) ∙ sym (under-none (λ i. eqb (edgeOf p i) h) 0 (λ j l. absurd (omega arith)))
     marks-at (suc n) h b =
@@ -94,18 +79,17 @@ module _ (p : Parts) where
         let other = getD-set-other v (edgeOf p n) h 1 0 (λ (k : h ≡ edgeOf p n). eqb-false (edgeOf p n) h y (sym k)) in
         mark-same (set v (edgeOf p n) 1) v h other ∙ marks-at n h b ∙ sym (any-more t n y))
 
-    module _ (few : p .adjacency ≤ 4096) where
-      -- the marks tell of an entry what rule 17 asks
-      wrong-by-marks : (i : ℕ) → wrongBy p (marksOf p i x) i ≡ wrongEdge p i
-      unfolding wrongBy wrongEdge
-      wrong-by-marks i =
-          test (border p (edgeOf p i)) (λ y. rw (y, marks-at i (edgeOf p i) (omega (arith, border-in p (edgeOf p i) y)))) (λ y. rw y)
+    -- the marks tell of an entry what rule 17 asks
+    wrong-by-marks : (i : ℕ) → wrongBy p (marksOf p i x) i ≡ wrongEdge p i
+    unfolding wrongBy wrongEdge
+    wrong-by-marks i =
+        test (border p (edgeOf p i)) (λ y. rw (y, marks-at i (edgeOf p i) (border-in p (edgeOf p i) y))) (λ y. rw y)
 
-      -- a turn of the loop that marks: what it is told of entry i
-      pub told-by : (i : ℕ) (v : List ℕ) (b : Bool) → v ≡ marksOf p i x → b ≡ wrongBy p v i → wrongEdge p i ≡ b
-      told-by i v b e f = sym (f ∙ ap (λ (u : List ℕ). wrongBy p u i) e ∙ wrong-by-marks i)
+    -- a turn of the loop that marks: what it is told of entry i
+    pub told-by : (i : ℕ) (v : List ℕ) (b : Bool) → v ≡ marksOf p i x → b ≡ wrongBy p v i → wrongEdge p i ≡ b
+    told-by i v b e f = sym (f ∙ ap (λ (u : List ℕ). wrongBy p u i) e ∙ wrong-by-marks i)
 
-      -- and of a border
-      pub unmarked-missing : (h : ℕ) → h < halves p → unmarked p (marksOf p (p .edges) x) h ≡ missing p h
-      unfolding unmarked missing
-      unmarked-missing h b = rw (marks-at (p .edges) h (omega arith))
+    -- and of a border
+    pub unmarked-missing : (h : ℕ) → h < halves p → unmarked p (marksOf p (p .edges) x) h ≡ missing p h
+    unfolding unmarked missing
+    unmarked-missing h b = rw (marks-at (p .edges) h b)

@@ -5,7 +5,7 @@ ghost use Prim.Native.Nat.{_<_, _≤_};
 ghost use lib.ListN.{length};
 ghost use Rattle.verdict.specs.Lowest.{lowest};
 ghost use Rattle.verdict.specs.Verdict.{_then_};
-ghost use Rattle.verdict.specs.Memory.{workSize, clearedTo};
+ghost use Rattle.verdict.specs.Memory.{workSize, clearedTo, SamePast};
 ghost use Rattle.tables.specs.Header.{RightHeader};
 ghost use Rattle.tables.specs.Parts.{partsOf, edgeOf, transition, loopEnd};
 ghost use Rattle.pairs.specs.Halves.{halves, rules15to16, RightPairs};
@@ -76,15 +76,15 @@ fn wrong_by(bytes: &[u8], work: &[u8], i: usize) -> bool
     true
 }
 
-// Marks the borders of the edge entries in clear memory, up to the first wrong one.
+// Marks the borders of the edge entries in memory made clear for them, up to the first wrong one.
 fn mark_edges(bytes: &[u8], work: &mut [u8]) -> usize
     requires { ⌜ RightHeader (now bytes) × RightPairs (partsOf (now bytes)) ⌝ }
     requires memory { ⌜ workSize ≤ length (now work) ⌝ }
     ensures answer { λ r. ⌜ r ≡ lowest (partsOf (now (bytes .entry)) .edges) (wrongEdge (partsOf (now (bytes .entry)))) ⌝ }
-    ensures marks { λ r. ⌜ now (work .exit) ≡ marksOf (partsOf (now (bytes .entry))) r (clearedTo workSize (now (work .entry))) ⌝ }
+    ensures marks { λ r. ⌜ now (work .exit) ≡ marksOf (partsOf (now (bytes .entry))) r (clearedTo (halves (partsOf (now (bytes .entry)))) (now (work .entry))) ⌝ }
 {
     let count = edges_of(bytes);
-    verdict::clear(work);
+    verdict::clear_to(work, pairs::halves_of(bytes));
     let mut i = 0;
     while i < count {
         if wrong_by(bytes, work, i) {
@@ -125,12 +125,12 @@ fn first_unmarked(bytes: &[u8], work: &[u8]) -> usize
     n
 }
 
-// 17, with the marks left in the memory.
-fn edges_found(bytes: &[u8], work: &mut [u8]) -> Answer
+// 17
+fn edges_verdict(bytes: &[u8], work: &mut [u8]) -> Answer
     requires { ⌜ RightHeader (now bytes) × RightPairs (partsOf (now bytes)) ⌝ }
     requires memory { ⌜ workSize ≤ length (now work) ⌝ }
     ensures answer { λ r. ⌜ r ≡ rule17 (partsOf (now (bytes .entry))) ⌝ }
-    ensures rest { λ _. ⌜ clearedTo workSize (now (work .exit)) ≡ clearedTo workSize (now (work .entry)) ⌝ }
+    ensures memory { λ _. ⌜ SamePast (now (work .exit)) (now (work .entry)) ⌝ }
 {
     let n = pairs::halves_of(bytes);
     let count = edges_of(bytes);
@@ -138,18 +138,6 @@ fn edges_found(bytes: &[u8], work: &mut [u8]) -> Answer
     let gap = first_unmarked(bytes, work);
     let a = verdict::first_rule(17, wrong < count, wrong as u32);
     verdict::then_rule(a, 17, gap < n, count as u32)
-}
-
-// 17
-fn edges_verdict(bytes: &[u8], work: &mut [u8]) -> Answer
-    requires { ⌜ RightHeader (now bytes) × RightPairs (partsOf (now bytes)) ⌝ }
-    requires memory { ⌜ workSize ≤ length (now work) ⌝ }
-    ensures answer { λ r. ⌜ r ≡ rule17 (partsOf (now (bytes .entry))) ⌝ }
-    ensures memory { λ _. ⌜ now (work .exit) ≡ clearedTo workSize (now (work .entry)) ⌝ }
-{
-    let a = edges_found(bytes, work);
-    verdict::clear(work); // the marks are put away
-    a
 }
 
 // Whether the transition of edge entry i is not -1 to 63.
@@ -272,7 +260,7 @@ pub fn loops_verdict(bytes: &[u8], work: &mut [u8]) -> Answer
     requires { ⌜ RightHeader (now bytes) × (workSize ≤ length (now work)) ⌝ }
     requires pairs { ⌜ rules15to16 (partsOf (now bytes)) .number ≡ 0 ⌝ }
     ensures answer { λ r. ⌜ r ≡ rules17to19 (partsOf (now (bytes .entry))) ⌝ }
-    ensures memory { λ _. ⌜ now (work .exit) ≡ clearedTo workSize (now (work .entry)) ⌝ }
+    ensures memory { λ _. ⌜ SamePast (now (work .exit)) (now (work .entry)) ⌝ }
 {
     let count = edges_of(bytes);
     let a = edges_verdict(bytes, work);

@@ -20,7 +20,7 @@ use Rattle.pairs.specs.Halves.{rule15, rule16}
 use Rattle.border.specs.Loops.{rule17, rule18, rule19}
 use Rattle.floor.specs.declared.Floor.{Floor}
 
--- 20: work memory under 16,384 bytes. `room` is its length
+-- 20: work memory under 65,536 bytes. `room` is its length
 unfoldable pub rule20 : ℕ → Answer
 rule20 room = rule 20 (ltb room workSize) 0
 
@@ -66,6 +66,6 @@ answerOf a p = record {
 unfoldable pub readerAnswer : List ℕ → ℕ → Floor
 readerAnswer b room = answerOf (readerVerdict b room) (partsOf b)
 
--- the work memory on return: its first 16,384 bytes zero and the rest untouched; with 20 all of it untouched
+-- the work memory on return: its first 65,536 bytes zero and the rest untouched; with 20 all of it untouched
 unfoldable pub readerMemory : List ℕ → List ℕ
 readerMemory w = cond (ltb (length w) workSize) w (clearedTo workSize w)

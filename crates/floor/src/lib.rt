@@ -4,7 +4,7 @@ use verdict::Form;
 ghost use mathlib.Core.Path.{_≡_};
 ghost use Prim.Native.Nat.{_≤_};
 ghost use lib.ListN.{length};
-ghost use Rattle.verdict.specs.Memory.{workSize, clearedTo};
+ghost use Rattle.verdict.specs.Memory.{workSize, SamePast};
 ghost use Rattle.tables.specs.Header.{RightHeader};
 ghost use Rattle.tables.specs.Parts.{partsOf, wordPlace};
 ghost use Rattle.verdict.specs.Verdict.{accepted};
@@ -38,7 +38,7 @@ fn shape_verdict(bytes: &[u8]) -> Answer
 fn borders_verdict(bytes: &[u8], work: &mut [u8]) -> Answer
     requires { ⌜ RightHeader (now bytes) × (workSize ≤ length (now work)) ⌝ }
     ensures answer { λ r. ⌜ r ≡ rules15to19 (partsOf (now (bytes .entry))) ⌝ }
-    ensures memory { λ _. ⌜ now (work .exit) ≡ clearedTo workSize (now (work .entry)) ⌝ }
+    ensures memory { λ _. ⌜ SamePast (now (work .exit)) (now (work .entry)) ⌝ }
 {
     let pairs = pairs::pairs_verdict(bytes, work);
     if pairs.number != 0 {
@@ -52,7 +52,7 @@ fn tree_and_borders(bytes: &[u8], work: &mut [u8]) -> Answer
     requires shaped { ⌜ Finite (partsOf (now bytes)) × Cornered (partsOf (now bytes)) × Closed (partsOf (now bytes)) ⌝ }
     requires room { ⌜ RightHeader (now bytes) × (workSize ≤ length (now work)) ⌝ }
     ensures answer { λ r. ⌜ r ≡ rules13to19 (partsOf (now (bytes .entry))) ⌝ }
-    ensures memory { λ _. ⌜ now (work .exit) ≡ clearedTo workSize (now (work .entry)) ⌝ }
+    ensures memory { λ _. ⌜ SamePast (now (work .exit)) (now (work .entry)) ⌝ }
 {
     let tree = tree::tree_verdict(bytes, work);
     if tree.number != 0 {
@@ -65,7 +65,7 @@ fn tree_and_borders(bytes: &[u8], work: &mut [u8]) -> Answer
 fn floor_verdict(bytes: &[u8], work: &mut [u8]) -> Answer
     requires { ⌜ workSize ≤ length (now work) ⌝ }
     ensures answer { λ r. ⌜ r ≡ rules1to19 (now (bytes .entry)) ⌝ }
-    ensures memory { λ _. ⌜ clearedTo workSize (now (work .exit)) ≡ clearedTo workSize (now (work .entry)) ⌝ }
+    ensures memory { λ _. ⌜ SamePast (now (work .exit)) (now (work .entry)) ⌝ }
 {
     let header = header::header_verdict(bytes);
     if header.number != 0 {
@@ -78,7 +78,7 @@ fn floor_verdict(bytes: &[u8], work: &mut [u8]) -> Answer
     tree_and_borders(bytes, work)
 }
 
-// The reader's refusals. The work memory is left zero, and what lies past it as it was.
+// The reader's refusals. The rules use the work memory as they like; here, once, it is made zero. What lies past it is as it was.
 pub fn read_verdict(bytes: &[u8], work: &mut [u8]) -> Answer
     ensures answer { λ r. ⌜ r ≡ readerVerdict (now (bytes .entry)) (length (now (work .entry))) ⌝ }
     ensures memory { λ _. ⌜ now (work .exit) ≡ readerMemory (now (work .entry)) ⌝ }
@@ -90,7 +90,7 @@ pub fn read_verdict(bytes: &[u8], work: &mut [u8]) -> Answer
         };
     }
     let so = floor_verdict(bytes, work);
-    verdict::clear(work);
+    verdict::clear_to(work, verdict::WORK_SIZE);
     so
 }
 

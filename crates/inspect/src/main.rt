@@ -112,7 +112,7 @@ fn file_line(bytes: &[u8], work: &mut [u8], out: &mut [u8]) -> usize
 
 fn main() {
     let mut bytes = [0u8; 65537];
-    let mut work = [0u8; 16384];
+    let mut work = [0u8; verdict::WORK_SIZE];
     let mut out = [0u8; 256];
     let n = io::read_full(STDIN_FILENO, &mut bytes);
     let e = file_line(&bytes[..n], &mut work, &mut out);

@@ -16,5 +16,5 @@ pub record SoundFloor (fl : List ℕ) : Type 0 where
 
 pub record AcceptedFloor (fl : List ℕ) : Type 0 where
   pub bytes : Bytes fl
-  -- the reader accepts it, whatever work memory of 16,384 bytes or more it is lent
+  -- the reader accepts it, whatever work memory of 65,536 bytes or more it is lent
   pub read : (work : ℕ) → workSize ≤ work → readerVerdict fl work ≡ accepted

@@ -1,8 +1,7 @@
 -- What rules 7 to 10 say, as plain statements, both ways. Assumes nothing.
-use mathlib.Core.Path.{_≡_, refl, sym, ap, _∙_}
+use mathlib.Core.Path.{_≡_, refl, sym, _∙_}
 use mathlib.Core.Bool.{true, false}
 use Prim.Native.Nat.{ℕ, zero, suc, _+_, _*_, _/_, _%_, _≤_, _<_}
-use native.Mathlib.Nat.{mul-add-div-right, mul-add-mod-self-right, div-eq-of-lt, mod-eq-of-lt, mul-le-mul-right, suc-mul, add-zero}
 use native.Mathlib.Omega.{arith}
 use native.Mathlib.Decide.{decLt}
 use lib.Dec.{leb, eqb, ltb}
@@ -20,7 +19,7 @@ use Rattle.tables.specs.Parts.{Parts, countOf, wordOf, corner, material}
 use Rattle.mesh.specs.Floats.{wild, wildHead, wildIn, rule7In, rule7}
 use Rattle.mesh.specs.Faces.{wrongCorner, wrongCorners, walkables, walkable, strange, misplaced, rule8, rule9, rule10}
 use Rattle.mesh.specs.Mesh.{rules7to10, IsFinite, Walkable, Finite, Cornered, Painted, Meshed}
-use Rattle.mesh.proofs.Wild.{split-in}
+use Rattle.mesh.proofs.Wild.{split-in, entry-of, entry-in}
 use Rattle.mesh.proofs.Walkable.{misplaced-under, misplaced-past}
 
 -- ---- 7
@@ -46,15 +45,6 @@ is-finite w e = test-finite w (not-false (finite (ofBits binary32 w)) e)
 finite-is : (w : ℕ) → IsFinite w → wild w ≡ false
 unfolding wild
 finite-is w f = not-of-true (finite (ofBits binary32 w)) (finite-test w f)
-
--- float e of entry i is float i * per + e of its table
-entry-of : (i e per : ℕ) → e < per → ((i * per + e) / per ≡ i) × ((i * per + e) % per ≡ e)
-entry-of i e per l =
-    let pos : 0 < per = omega arith in
-    (mul-add-div-right pos i e ∙ ap (λ (x : ℕ). i + x) (div-eq-of-lt l) ∙ add-zero i, mul-add-mod-self-right i per e ∙ mod-eq-of-lt l)
-
-entry-in : (i e n per : ℕ) → i < n → e < per → i * per + e < n * per
-entry-in i e n per l m = let h : suc i * per ≤ n * per = mul-le-mul-right per l in omega (arith, suc-mul i per)
 
 module _ (place : ℕ → ℕ → ℕ) (p : Parts) (k per : ℕ) where
   -- a table whose floats are all finite

@@ -1,10 +1,10 @@
--- The table of walkable materials in code is the list of document 01, by one computed test; and rule 10 by where a face stands. Assumes nothing.
+-- The number whose bits are the walkable materials in code is the list of document 01, by one computed test; and rule 10 by where a face stands.
+-- Assumes nothing.
 use mathlib.Core.Path.{_≡_, refl, sym}
 use mathlib.Core.Bool.{Bool, true, false, not, _&&_, _||_}
-use mathlib.Core.List.{List, [], _∷_}
-use Prim.Native.Nat.{ℕ, _≤_, _<_}
+use Prim.Native.Nat.{ℕ, _/_, _%_, _^_, _≤_, _<_}
 use native.Mathlib.Omega.{arith}
-use lib.ListN.{getD}
+use lib.Dec.{eqb}
 use borrow.Author.Tests.{lt-ltb, le-ltb}
 use Rattle.verdict.specs.Lists.{times}
 use Rattle.verdict.specs.Lowest.{lowest, anyUnder, allUnder}
@@ -13,15 +13,13 @@ use Rattle.verdict.proofs.Lists.{NoneFrom, none-every}
 use Rattle.tables.specs.Parts.{Parts, material}
 use Rattle.mesh.specs.Faces.{walkables, walkable, misplaced}
 
--- the table of the code
-abbrev pub flags : List Bool
-flags =
-    false ∷ true ∷ false ∷ true ∷ true ∷ true ∷ true ∷ false ∷ false ∷ true ∷ true ∷ true ∷ true ∷ true ∷ true ∷
-    false ∷ true ∷ false ∷ true ∷ false ∷ true ∷ true ∷ true ∷ []
+-- bit m of the code's number
+abbrev flag : ℕ → Bool
+flag m = eqb (0x757E7A / 2 ^ m % 2) 1
 
 -- the two say the same of a material
 agrees : ℕ → Bool
-agrees m = (getD flags m false && walkable m) || (not (getD flags m false) && not (walkable m))
+agrees m = (flag m && walkable m) || (not (flag m) && not (walkable m))
 
 agree : (a b : Bool) → ((a && b) || (not a && not b)) ≡ true → a ≡ b
 agree true true e = refl
@@ -33,9 +31,9 @@ all-agree : allUnder 23 agrees ≡ true
 unfolding agrees walkable times allUnder anyUnder lowest
 all-agree = refl
 
-pub flag-walkable : (m : ℕ) → m < 23 → getD flags m false ≡ walkable m
+pub flag-walkable : (m : ℕ) → m < 23 → flag m ≡ walkable m
 unfolding agrees
-flag-walkable m l = agree (getD flags m false) (walkable m) (all-true agrees 23 all-agree m l)
+flag-walkable m l = agree (flag m) (walkable m) (all-true agrees 23 all-agree m l)
 
 -- and of no other number
 pub past-walkable : (m : ℕ) → 23 ≤ m → false ≡ walkable m

@@ -2,10 +2,12 @@
 -- vertices, normals, distances, boxes, so the rule takes a function from tables and words to bytes. Definitions only.
 use Prim.Native.Nat.{ℕ, _+_, _*_, _/_, _%_}
 use mathlib.Core.Bool.{Bool, not}
+use mathlib.Core.List.{List}
 use lib.ListN.{getD}
 use lib.Ieee.{binary32, ofBits}
 use Rattle.verdict.specs.Verdict.{ruleOfEach, _then_}
 use Rattle.verdict.specs.declared.Answer.{Answer}
+use Rattle.wire.specs.Bytes.{u32At}
 use Rattle.grid.specs.Grid.{finite}
 use Rattle.tables.specs.Parts.{Parts, countOf, wordOf, wordIndex}
 
@@ -19,6 +21,10 @@ wildHead p i = wild (getD (p .floats) i 0)
 
 unfoldable pub wildIn : Parts → ℕ → ℕ → ℕ → Bool
 wildIn p k per j = wild (wordOf p k (j / per) (j % per))
+
+-- word j of those from a place of a file on: what a search through the bytes goes by
+unfoldable pub wildFrom : List ℕ → ℕ → ℕ → Bool
+wildFrom b at j = wild (u32At b (at + 4 * j))
 
 -- 7, of one table
 unfoldable pub rule7In : (ℕ → ℕ → ℕ) → Parts → ℕ → ℕ → Answer

@@ -1,42 +1,19 @@
 // Rules 7 to 10 of the floor's reader: finite floats, corners, materials.
 use verdict::Answer;
 ghost use mathlib.Core.Path.{_≡_};
-ghost use Prim.Native.Nat.{_*_, _<_, _≤_};
+ghost use Prim.Native.Nat.{_+_, _*_, _<_, _≤_};
+ghost use lib.ListN.{length};
 ghost use Rattle.verdict.specs.Lowest.{lowest};
 ghost use Rattle.verdict.specs.Verdict.{_then_};
 ghost use Rattle.tables.specs.Tables.{tableAt, width};
 ghost use Rattle.tables.specs.Header.{floorTables, RightHeader};
 ghost use Rattle.tables.specs.Parts.{partsOf, countOf, wordPlace};
-ghost use Rattle.mesh.specs.Floats.{wild, wildHead, wildIn, rule7In, rule7};
+ghost use Rattle.mesh.specs.Floats.{wild, wildHead, wildFrom, wildIn, rule7In, rule7};
 ghost use Rattle.mesh.specs.Faces.{wrongCorner, wrongCorners, walkable, strange, misplaced};
 ghost use Rattle.mesh.specs.Mesh.{rules7to10};
 
-// Which of the materials 0 to 22 are walkable.
-const WALKABLE: [bool; 23] = [
-    false,
-    true,
-    false,
-    true,
-    true,
-    true,
-    true,
-    false,
-    false,
-    true,
-    true,
-    true,
-    true,
-    true,
-    true,
-    false,
-    true,
-    false,
-    true,
-    false,
-    true,
-    true,
-    true,
-];
+// Which of the materials 0 to 22 are walkable: bit m is set where material m is. A number, for an array would be built anew at each look.
+const WALKABLE: u32 = 0b111_0101_0111_1110_0111_1010;
 
 fn is_wild(bits: u32) -> bool
     ensures { λ r. ⌜ r ≡ wild bits ⌝ }
@@ -66,24 +43,37 @@ fn first_wild_head(bytes: &[u8]) -> usize
     15
 }
 
-fn is_wild_in(bytes: &[u8], k: usize, per: usize, j: usize) -> bool
-    requires { ⌜ RightHeader (now bytes) × (k < 9) × (0 < per) × (per ≤ width (tableAt floorTables k)) × (j < countOf (partsOf (now bytes)) k * per) ⌝ }
-    ensures { λ r. ⌜ r ≡ wildIn (partsOf (now (bytes .entry))) k per j ⌝ }
+// The first wild one of n words from `at` on, or n.
+fn first_wild_word(bytes: &[u8], at: usize, n: usize) -> usize
+    requires { ⌜ at + 4 * n ≤ length (now bytes) ⌝ }
+    ensures { λ r. ⌜ r ≡ lowest n (wildFrom (now (bytes .entry)) at) ⌝ }
 {
-    is_wild(tables::word_of(bytes, k, j / per, j % per))
+    let mut j = 0;
+    while j < n {
+        if is_wild(wire::u32_at(bytes, at + 4 * j)) {
+            return j;
+        }
+        j += 1;
+    }
+    n
 }
 
-// The first float of table k that is wild, of n.
+// The first float of table k that is wild, of n. Where the table lies is read once, and not for each float.
 fn first_wild(bytes: &[u8], k: usize, per: usize, n: usize) -> usize
     requires { ⌜ RightHeader (now bytes) × (k < 9) × (0 < per) × (per ≤ width (tableAt floorTables k)) × (n ≡ countOf (partsOf (now bytes)) k * per) ⌝ }
     ensures { λ r. ⌜ r ≡ lowest n (wildIn (partsOf (now (bytes .entry))) k per) ⌝ }
 {
-    let mut j = 0;
-    while j < n {
-        if is_wild_in(bytes, k, per, j) {
-            return j;
+    let t = tables::table_at(k);
+    let size = t.size;
+    let start = tables::start_of(bytes, k);
+    let count = tables::count_of(bytes, k);
+    let mut i = 0;
+    while i < count {
+        let e = first_wild_word(bytes, start + i * size, per);
+        if e < per {
+            return i * per + e;
         }
-        j += 1;
+        i += 1;
     }
     n
 }
@@ -161,9 +151,8 @@ fn first_cornered(bytes: &[u8], n: usize) -> usize
 pub fn is_walkable(m: u32) -> bool
     ensures { λ r. ⌜ r ≡ walkable m ⌝ }
 {
-    let i = m as usize;
-    if i < 23 {
-        return WALKABLE[i];
+    if m < 23 {
+        return (WALKABLE >> m) % 2 == 1;
     }
     false
 }

@@ -1,28 +1,40 @@
 -- Laws of half-edges, partners and borders: what rules 15 and 16 tell the code. Assumes nothing.
-use mathlib.Core.Path.{_≡_}
+use mathlib.Core.Path.{_≡_, ap}
 use mathlib.Core.Bool.{true, false, not}
 use mathlib.Core.List.{List}
-use Prim.Native.Nat.{ℕ, _/_, _<_, _≤_}
+use Prim.Native.Nat.{ℕ, _+_, _*_, _/_, _%_, _<_, _≤_}
 use native.Mathlib.Omega.{arith}
 use lib.Dec.{eqb, ltb}
+use lib.ListN.{getD}
 use borrow.Author.Tests.{lt-ltb, le-ltb, eq-eqb, ne-eqb, ltb-true, eqb-true, not-false}
 use Rattle.verdict.proofs.Bools.{test, and-true}
 use Rattle.verdict.proofs.Verdict.{passed, each-met}
-use Rattle.tables.specs.Header.{RightHeader}
-use Rattle.tables.specs.Parts.{none32, Parts, partsOf, adjacentTo}
+use Rattle.tables.specs.Tables.{tableAt, width}
+use Rattle.tables.specs.Header.{floorTables, RightHeader}
+use Rattle.tables.specs.Parts.{none32, Parts, partsOf, tableOf, countOf, wordOf, adjacentTo}
 use Rattle.tables.proofs.Reading.{sized-of}
-use Rattle.pairs.specs.Halves.{halves, repeats, partner, border, pairing, wrongAdjacent, rule15, rule16, rules15to16, RightPairs}
+use Rattle.pairs.specs.Halves.{halves, from, to, repeats, partner, border, pairing, wrongAdjacent, rule15, rule16, rules15to16, RightPairs}
 
 -- how many faces of a right header are walkable at most
 pub few-walkable : (b : List ℕ) → RightHeader b → partsOf b .adjacency ≤ 4096
 few-walkable b r = let s = sized-of b r in omega (arith, s .adjacency, s .faces)
 
--- a half-edge of a walkable face, and its face
-pub face-walkable : (p : Parts) (h : ℕ) → h < halves p → h / 3 < p .adjacency
-face-walkable p h l = omega arith
+-- half-edge h starts at word h of the corners, and its adjacency entry is word h of theirs
+pub from-word : (p : Parts) (h : ℕ) → getD (tableOf p 1) h 0 ≡ from p h
+unfolding from wordOf
+from-word p h = let e : h ≡ h / 3 * 3 + h % 3 = omega arith in ap (λ (j : ℕ). getD (tableOf p 1) j 0) e
 
-pub face-in : (b : List ℕ) → RightHeader b → (h : ℕ) → h < halves (partsOf b) → h / 3 < partsOf b .faces
-face-in b r h l = omega (arith, sized-of b r .adjacency)
+pub adjacent-word : (p : Parts) (h : ℕ) → getD (tableOf p 6) h 0 ≡ adjacentTo p h
+unfolding wordOf
+adjacent-word p h = let e : h ≡ h / 3 * 3 + h % 3 = omega arith in ap (λ (j : ℕ). getD (tableOf p 6) j 0) e
+
+pub corner-among : (b : List ℕ) → RightHeader b → (h : ℕ) → h < halves (partsOf b) → h < countOf (partsOf b) 1 * width (tableAt floorTables 1)
+corner-among b r h l = omega (arith, sized-of b r .adjacency)
+
+-- the next half-edge of the face starts where this one ends
+pub next-starts : (p : Parts) (h g : ℕ) → g / 3 ≡ h / 3 → g % 3 ≡ (h % 3 + 1) % 3 → from p g ≡ to p h
+unfolding from to
+next-starts p h g e f = rw (e, f)
 
 module _ (p : Parts) where
   pub border-in : (h : ℕ) → border p h ≡ true → h < halves p

@@ -75,6 +75,10 @@ module _ (p : Parts) where
       absurd (omega arith))
       (λ y. y))
 
+  pub apart-met : Apart p → rule15 p ≡ accepted
+  unfolding rule15
+  apart-met a = each-passes 15 (halves p) (repeats p) (λ h. h) (apart-to a)
+
   -- the partner is the only one, and its partner is the half-edge itself
   pub partner-only : Apart p → (g h : ℕ) → g < halves p → Opposite p g h → partner p h ≡ g
   partner-only a g h b o =
@@ -136,9 +140,8 @@ module _ (p : Parts) where
   not-wrong q h b = not-of-true (eqb (adjacentTo p h) (pairing p h)) (eq-eqb (adjacentTo p h) (pairing p h) (entry-right q h b))
 
   pub paired-to : Paired p → rules15to16 p ≡ accepted
-  unfolding rules15to16 rule15 rule16
-  paired-to q =
-      then-both (each-passes 15 (halves p) (repeats p) (λ h. h) (apart-to (q .apart))) (each-passes 16 (halves p) (wrongAdjacent p) (λ h. h) (not-wrong q))
+  unfolding rules15to16 rule16
+  paired-to q = then-both (apart-met (q .apart)) (each-passes 16 (halves p) (wrongAdjacent p) (λ h. h) (not-wrong q))
 
   -- the adjacency entries are an involution: a neighbour's neighbour is the half-edge itself
   pub adjacent-twice : Paired p → (h : ℕ) → h < halves p → adjacentTo p h < none32 → (adjacentTo p h < halves p) × (adjacentTo p (adjacentTo p h) ≡ h)

@@ -1,3 +1,3 @@
 pub mod Halves
-pub mod Index
+pub mod Chains
 pub mod Plain

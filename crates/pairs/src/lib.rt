@@ -1,14 +1,20 @@
-// Rules 15 and 16: half-edges and their partners.
+// Rules 15 and 16: half-edges and their partners, found by chains in the work memory.
 use verdict::Answer;
 ghost use mathlib.Core.Path.{_≡_};
-ghost use Prim.Native.Nat.{_<_, _≤_};
+ghost use Prim.Native.Nat.{_+_, _/_, _%_, _<_, _≤_};
 ghost use lib.ListN.{length};
-ghost use Rattle.verdict.specs.Lowest.{lowest};
-ghost use Rattle.verdict.specs.Memory.{workSize, clearedTo};
+ghost use Rattle.verdict.specs.Lowest.{lowest, anyUnder};
+ghost use Rattle.verdict.specs.Memory.{workSize, SamePast};
 ghost use Rattle.tables.specs.Header.{RightHeader};
 ghost use Rattle.tables.specs.Parts.{partsOf, adjacentTo};
-ghost use Rattle.pairs.specs.Halves.{halves, from, to, runs, repeats, partner, border, pairing, wrongAdjacent, rules15to16, RightPairs};
-ghost use Rattle.pairs.specs.Index.{Ready};
+ghost use Rattle.pairs.specs.Halves.{halves, from, to, runs, repeats, border, wrongAdjacent, rules15to16, RightPairs};
+ghost use Rattle.pairs.specs.Plain.{Apart};
+ghost use Rattle.pairs.specs.Chains.{chains, chainOf, Chained, withLast};
+
+// How many chains of half-edges stand in the work memory.
+const CHAINS: usize = 16384;
+// By how many chains the next end moves a half-edge on. Any number gives the same answers; this one keeps the chains short.
+const STRIDE: usize = 517;
 
 // The number of half-edges of walkable faces.
 pub fn halves_of(bytes: &[u8]) -> usize
@@ -18,20 +24,31 @@ pub fn halves_of(bytes: &[u8]) -> usize
     3 * tables::count_of(bytes, 6)
 }
 
-// The vertex where half-edge h starts.
+// The vertex where half-edge h starts: corner after corner is the order of half-edges, so that nothing is divided.
 pub fn from_of(bytes: &[u8], h: usize) -> usize
     requires { ⌜ RightHeader (now bytes) × (h < halves (partsOf (now bytes))) ⌝ }
-    ensures { λ r. ⌜ r ≡ from (partsOf (now (bytes .entry))) h ⌝ }
+    ensures { λ r. ⌜ (r ≡ from (partsOf (now (bytes .entry))) h) × (r < 4294967296) ⌝ }
 {
-    tables::corner_of(bytes, h / 3, h % 3)
+    tables::word_at(bytes, 1, h) as usize
 }
 
-// The vertex where half-edge h ends.
+// The half-edge after h in its face.
+fn next_in_face(h: usize) -> usize
+    requires { ⌜ h < 12288 ⌝ }
+    ensures { λ r. ⌜ (r / 3 ≡ h / 3) × (r % 3 ≡ (h % 3 + 1) % 3) ⌝ }
+{
+    if h % 3 == 2 {
+        return h - 2;
+    }
+    h + 1
+}
+
+// The vertex where half-edge h ends: there the next one starts.
 pub fn to_of(bytes: &[u8], h: usize) -> usize
     requires { ⌜ RightHeader (now bytes) × (h < halves (partsOf (now bytes))) ⌝ }
-    ensures { λ r. ⌜ r ≡ to (partsOf (now (bytes .entry))) h ⌝ }
+    ensures { λ r. ⌜ (r ≡ to (partsOf (now (bytes .entry))) h) × (r < 4294967296) ⌝ }
 {
-    tables::corner_of(bytes, h / 3, (h % 3 + 1) % 3)
+    from_of(bytes, next_in_face(h))
 }
 
 // Adjacency entry h.
@@ -39,7 +56,7 @@ fn adjacent_of(bytes: &[u8], h: usize) -> u32
     requires { ⌜ RightHeader (now bytes) × (h < halves (partsOf (now bytes))) ⌝ }
     ensures { λ r. ⌜ r ≡ adjacentTo (partsOf (now (bytes .entry))) h ⌝ }
 {
-    tables::word_of(bytes, 6, h / 3, h % 3)
+    tables::word_at(bytes, 6, h)
 }
 
 // Whether half-edge h runs from vertex a to vertex b.
@@ -53,96 +70,85 @@ fn runs_so(bytes: &[u8], a: usize, b: usize, h: usize) -> bool
     false
 }
 
-// The lowest half-edge under n that runs from vertex a to vertex b, or n: the one search.
-fn first_run(bytes: &[u8], work: &[u8], n: usize, a: usize, b: usize) -> usize
-    requires { ⌜ RightHeader (now bytes) × (n ≤ halves (partsOf (now bytes))) ⌝ }
-    requires ready { ⌜ Ready (partsOf (now bytes)) (now work) ⌝ }
-    ensures { λ r. ⌜ r ≡ lowest n (runs (partsOf (now (bytes .entry))) a b) ⌝ }
+// The chain of the half-edges from vertex a to vertex b.
+fn chain_of(a: usize, b: usize) -> usize
+    requires { ⌜ (a < 4294967296) × (b < 4294967296) ⌝ }
+    ensures { λ r. ⌜ (r ≡ chainOf a b) × (r < chains) ⌝ }
 {
-    let mut h = 0;
-    while h < n {
-        if runs_so(bytes, a, b, h) {
-            return h;
-        }
-        h += 1;
-    }
-    n
+    (a + STRIDE * b) % CHAINS
 }
 
-// Makes the memory ready for the search.
-fn prepare(bytes: &[u8], work: &mut [u8])
+// Whether a half-edge under s runs from vertex a to vertex b. No others are chained, so s is named for the promise alone.
+fn is_run(bytes: &[u8], work: &[u8], s: usize, a: usize, b: usize) -> bool
+    requires { ⌜ RightHeader (now bytes) × (s ≤ halves (partsOf (now bytes))) × (a < 4294967296) × (b < 4294967296) ⌝ }
+    requires chained { ⌜ (workSize ≤ length (now work)) × Chained (partsOf (now bytes)) (now work) s ⌝ }
+    ensures { λ r. ⌜ r ≡ anyUnder s (runs (partsOf (now (bytes .entry))) a b) ⌝ }
+{
+    let mut g = wire::u16_at(work, 2 * chain_of(a, b));
+    while 0 < g {
+        if runs_so(bytes, a, b, g - 1) {
+            return true;
+        }
+        g = wire::u16_at(work, 2 * (CHAINS + (g - 1)));
+    }
+    false
+}
+
+// Puts half-edge h last in chain v.
+fn put_last(work: &mut [u8], v: usize, h: usize)
+    requires { ⌜ (v < chains) × (h < 12288) × (workSize ≤ length (now work)) ⌝ }
+    ensures { λ _. ⌜ now (work .exit) ≡ withLast (now (work .entry)) v h ⌝ }
+{
+    let before = wire::u16_at(work, 2 * v);
+    wire::put_u16(work, 2 * (CHAINS + h), before);
+    wire::put_u16(work, 2 * v, h + 1);
+}
+
+// Chains the half-edges one by one, up to the first that runs as a lower one.
+fn first_repeat(bytes: &[u8], work: &mut [u8]) -> usize
     requires { ⌜ RightHeader (now bytes) × (workSize ≤ length (now work)) ⌝ }
-    ensures ready { λ _. ⌜ Ready (partsOf (now (bytes .entry))) (now (work .exit)) ⌝ }
-    ensures rest { λ _. ⌜ clearedTo workSize (now (work .exit)) ≡ clearedTo workSize (now (work .entry)) ⌝ }
-{}
-
-// Whether half-edge h runs exactly as a lower one.
-fn repeats_at(bytes: &[u8], work: &[u8], h: usize) -> bool
-    requires { ⌜ RightHeader (now bytes) × (h < halves (partsOf (now bytes))) ⌝ }
-    requires ready { ⌜ Ready (partsOf (now bytes)) (now work) ⌝ }
-    ensures { λ r. ⌜ r ≡ repeats (partsOf (now (bytes .entry))) h ⌝ }
-{
-    let a = from_of(bytes, h);
-    let b = to_of(bytes, h);
-    first_run(bytes, work, h, a, b) < h
-}
-
-fn first_repeat(bytes: &[u8], work: &[u8]) -> usize
-    requires { ⌜ RightHeader (now bytes) ⌝ }
-    requires ready { ⌜ Ready (partsOf (now bytes)) (now work) ⌝ }
-    ensures { λ r. ⌜ r ≡ lowest (halves (partsOf (now (bytes .entry)))) (repeats (partsOf (now (bytes .entry)))) ⌝ }
+    ensures answer { λ r. ⌜ r ≡ lowest (halves (partsOf (now (bytes .entry)))) (repeats (partsOf (now (bytes .entry)))) ⌝ }
+    ensures memory { λ r. ⌜ Chained (partsOf (now (bytes .entry))) (now (work .exit)) r × SamePast (now (work .exit)) (now (work .entry)) ⌝ }
 {
     let n = halves_of(bytes);
+    verdict::clear_to(work, 2 * CHAINS);
     let mut h = 0;
     while h < n {
-        if repeats_at(bytes, work, h) {
+        let a = from_of(bytes, h);
+        let b = to_of(bytes, h);
+        if is_run(bytes, work, h, a, b) {
             return h;
         }
+        put_last(work, chain_of(a, b), h);
         h += 1;
     }
     n
 }
 
-// The partner of half-edge h, or the number of half-edges.
-fn partner_of(bytes: &[u8], work: &[u8], h: usize) -> usize
-    requires { ⌜ RightHeader (now bytes) × (h < halves (partsOf (now bytes))) ⌝ }
-    requires ready { ⌜ Ready (partsOf (now bytes)) (now work) ⌝ }
-    ensures { λ r. ⌜ r ≡ partner (partsOf (now (bytes .entry))) h ⌝ }
-{
-    let n = halves_of(bytes);
-    let a = to_of(bytes, h);
-    let b = from_of(bytes, h);
-    first_run(bytes, work, n, a, b)
-}
-
-// What adjacency entry h should be.
-fn pairing_of(bytes: &[u8], work: &[u8], h: usize) -> u32
-    requires { ⌜ RightHeader (now bytes) × (h < halves (partsOf (now bytes))) ⌝ }
-    requires ready { ⌜ Ready (partsOf (now bytes)) (now work) ⌝ }
-    ensures { λ r. ⌜ r ≡ pairing (partsOf (now (bytes .entry))) h ⌝ }
-{
-    let n = halves_of(bytes);
-    let g = partner_of(bytes, work, h);
-    if g < n {
-        return g as u32;
-    }
-    wire::NONE
-}
-
-// Whether adjacency entry h is wrong.
+// Whether adjacency entry h is wrong, where 15 is unbroken: a half-edge that it names is the partner if it runs the opposite way, for no other
+// does; only for -1 is a partner looked for.
 fn wrong_adjacent(bytes: &[u8], work: &[u8], h: usize) -> bool
-    requires { ⌜ RightHeader (now bytes) × (h < halves (partsOf (now bytes))) ⌝ }
-    requires ready { ⌜ Ready (partsOf (now bytes)) (now work) ⌝ }
+    requires { ⌜ RightHeader (now bytes) × (h < halves (partsOf (now bytes))) × Apart (partsOf (now bytes)) ⌝ }
+    requires chained { ⌜ (workSize ≤ length (now work)) × Chained (partsOf (now bytes)) (now work) (halves (partsOf (now bytes))) ⌝ }
     ensures { λ r. ⌜ r ≡ wrongAdjacent (partsOf (now (bytes .entry))) h ⌝ }
 {
+    let n = halves_of(bytes);
     let own = adjacent_of(bytes, h);
-    let right = pairing_of(bytes, work, h);
-    own != right
+    let a = from_of(bytes, h);
+    let b = to_of(bytes, h);
+    if own == wire::NONE {
+        return is_run(bytes, work, n, b, a);
+    }
+    let g = own as usize;
+    if g < n {
+        return !runs_so(bytes, b, a, g);
+    }
+    true
 }
 
 fn first_wrong_adjacent(bytes: &[u8], work: &[u8]) -> usize
-    requires { ⌜ RightHeader (now bytes) ⌝ }
-    requires ready { ⌜ Ready (partsOf (now bytes)) (now work) ⌝ }
+    requires { ⌜ RightHeader (now bytes) × Apart (partsOf (now bytes)) ⌝ }
+    requires chained { ⌜ (workSize ≤ length (now work)) × Chained (partsOf (now bytes)) (now work) (halves (partsOf (now bytes))) ⌝ }
     ensures { λ r. ⌜ r ≡ lowest (halves (partsOf (now (bytes .entry)))) (wrongAdjacent (partsOf (now (bytes .entry)))) ⌝ }
 {
     let n = halves_of(bytes);
@@ -160,15 +166,15 @@ fn first_wrong_adjacent(bytes: &[u8], work: &[u8]) -> usize
 pub fn pairs_verdict(bytes: &[u8], work: &mut [u8]) -> Answer
     requires { ⌜ RightHeader (now bytes) × (workSize ≤ length (now work)) ⌝ }
     ensures answer { λ r. ⌜ r ≡ rules15to16 (partsOf (now (bytes .entry))) ⌝ }
-    ensures memory { λ _. ⌜ now (work .exit) ≡ clearedTo workSize (now (work .entry)) ⌝ }
+    ensures memory { λ _. ⌜ SamePast (now (work .exit)) (now (work .entry)) ⌝ }
 {
     let n = halves_of(bytes);
-    prepare(bytes, work);
     let twice = first_repeat(bytes, work);
+    if twice < n {
+        return verdict::first_rule(15, true, twice as u32);
+    }
     let wrong = first_wrong_adjacent(bytes, work);
-    verdict::clear(work);
-    let a = verdict::first_rule(15, twice < n, twice as u32);
-    verdict::then_rule(a, 16, wrong < n, wrong as u32)
+    verdict::first_rule(16, wrong < n, wrong as u32)
 }
 
 // Whether half-edge h is a border: where 15 and 16 are unbroken the adjacency entry says so.

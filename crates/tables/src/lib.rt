@@ -3,9 +3,9 @@ ghost use mathlib.Core.Path.{_≡_};
 ghost use Prim.Native.Nat.{_+_, _*_, _<_, _≤_};
 ghost use lib.ListN.{length, getD};
 ghost use Rattle.wire.specs.Bytes.{u32At};
-ghost use Rattle.tables.specs.Tables.{tableAt, width, spanOf, InHeader, entryAt};
+ghost use Rattle.tables.specs.Tables.{table, tableAt, width, spanOf, InHeader, entryAt};
 ghost use Rattle.tables.specs.Header.{floorTables, RightHeader};
-ghost use Rattle.tables.specs.Parts.{partsOf, countOf, wordIndex, wordOf, wordPlace, corner, material};
+ghost use Rattle.tables.specs.Parts.{partsOf, tableOf, countOf, wordIndex, wordOf, wordPlace, corner, material};
 
 // A table by the positions of its count and its offset in the header, and the size of an entry.
 pub struct Table {
@@ -20,60 +20,47 @@ pub struct Span {
     pub stop: usize,
 }
 
-const TABLES: [Table; 9] = [
+// A table by its three numbers.
+fn table_by(count: usize, offset: usize, size: usize) -> Table
+    ensures { λ r. ⌜ r ≡ table count offset size ⌝ }
+{
     Table {
-        count: 72,
-        offset: 76,
-        size: 12,
-    },
-    Table {
-        count: 80,
-        offset: 84,
-        size: 12,
-    },
-    Table {
-        count: 80,
-        offset: 88,
-        size: 4,
-    },
-    Table {
-        count: 80,
-        offset: 92,
-        size: 12,
-    },
-    Table {
-        count: 80,
-        offset: 96,
-        size: 4,
-    },
-    Table {
-        count: 100,
-        offset: 104,
-        size: 44,
-    },
-    Table {
-        count: 112,
-        offset: 116,
-        size: 12,
-    },
-    Table {
-        count: 120,
-        offset: 124,
-        size: 8,
-    },
-    Table {
-        count: 128,
-        offset: 132,
-        size: 4,
-    },
-];
+        count,
+        offset,
+        size,
+    }
+}
 
-// Table k.
+// Table k, by comparisons: an array that is indexed by a variable would be built anew at each look.
 pub fn table_at(k: usize) -> Table
     requires { ⌜ k < 9 ⌝ }
     ensures { λ r. ⌜ (r ≡ tableAt floorTables k) × InHeader r ⌝ }
 {
-    TABLES[k]
+    if k == 0 {
+        return table_by(72, 76, 12);
+    }
+    if k == 1 {
+        return table_by(80, 84, 12);
+    }
+    if k == 2 {
+        return table_by(80, 88, 4);
+    }
+    if k == 3 {
+        return table_by(80, 92, 12);
+    }
+    if k == 4 {
+        return table_by(80, 96, 4);
+    }
+    if k == 5 {
+        return table_by(100, 104, 44);
+    }
+    if k == 6 {
+        return table_by(112, 116, 12);
+    }
+    if k == 7 {
+        return table_by(120, 124, 8);
+    }
+    table_by(128, 132, 4)
 }
 
 // Where table k lies.
@@ -100,6 +87,23 @@ pub fn count_of(bytes: &[u8], k: usize) -> usize
     wire::u32_at(bytes, t.count) as usize
 }
 
+// Where table k starts.
+pub fn start_of(bytes: &[u8], k: usize) -> usize
+    requires { ⌜ RightHeader (now bytes) × (k < 9) ⌝ }
+    ensures { λ r. ⌜ (r ≡ u32At (now (bytes .entry)) (tableAt floorTables k .offset)) × (r < 4294967296) ⌝ }
+{
+    let t = table_at(k);
+    wire::u32_at(bytes, t.offset) as usize
+}
+
+// Word j of table k, whose entries lie one behind another.
+pub fn word_at(bytes: &[u8], k: usize, j: usize) -> u32
+    requires { ⌜ RightHeader (now bytes) × (k < 9) × (j < countOf (partsOf (now bytes)) k * width (tableAt floorTables k)) ⌝ }
+    ensures { λ r. ⌜ r ≡ getD (tableOf (partsOf (now (bytes .entry))) k) j 0 ⌝ }
+{
+    wire::u32_at(bytes, start_of(bytes, k) + 4 * j)
+}
+
 // The root field.
 pub fn root_of(bytes: &[u8]) -> u32
     requires { ⌜ RightHeader (now bytes) ⌝ }
@@ -123,8 +127,7 @@ fn entry_at(bytes: &[u8], k: usize, i: usize) -> usize
 {
     let t = table_at(k);
     let size = t.size;
-    let start = wire::u32_at(bytes, t.offset) as usize;
-    start + i * size
+    start_of(bytes, k) + i * size
 }
 
 // Where word e of entry i of table k lies.

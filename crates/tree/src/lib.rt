@@ -5,9 +5,9 @@ ghost use mathlib.Core.Path.{_≡_};
 ghost use mathlib.Core.Bool.{not, _&&_};
 ghost use Prim.Native.Nat.{_<_, _≤_};
 ghost use lib.ListN.{length};
-ghost use Rattle.verdict.specs.Lowest.{lowest, allUnder};
+ghost use Rattle.verdict.specs.Lowest.{lowest};
 ghost use Rattle.verdict.specs.Lists.{once};
-ghost use Rattle.verdict.specs.Memory.{workSize, clearedTo, isMarked, fresh, marked};
+ghost use Rattle.verdict.specs.Memory.{workSize, SamePast, fresh, marked};
 ghost use Rattle.tables.specs.Header.{RightHeader};
 ghost use Rattle.tables.specs.Parts.{partsOf};
 ghost use Rattle.boxes.specs.Box.{holdsPoint};
@@ -68,28 +68,17 @@ fn mark_faces(bytes: &[u8], work: &mut [u8]) -> bool
     true
 }
 
-// Whether the first n bytes are all marked; no mark stays.
-fn look_and_clear(work: &mut [u8], n: usize) -> bool
-    requires { ⌜ (n ≤ length (now work)) × (workSize ≤ length (now work)) ⌝ }
-    ensures answer { λ r. ⌜ r ≡ allUnder n (isMarked (now (work .entry))) ⌝ }
-    ensures memory { λ _. ⌜ now (work .exit) ≡ clearedTo workSize (now (work .entry)) ⌝ }
-{
-    let full = verdict::all_marked(work, n);
-    verdict::clear(work); // the marks
-    full
-}
-
 // Whether every node is reached from the root by exactly one path, and none by more than 64 steps.
 fn spans(bytes: &[u8], work: &mut [u8], root: usize) -> bool
     requires closed { ⌜ RightHeader (now bytes) × Closed (partsOf (now bytes)) ⌝ }
     requires room { ⌜ (root < (partsOf (now bytes) .nodes)) × (workSize ≤ length (now work)) ⌝ }
     ensures answer { λ r. ⌜ r ≡ (not (deep (nodesOf (partsOf (now (bytes .entry)))) 64 root) && once (partsOf (now (bytes .entry)) .nodes) (ends (nodesOf (partsOf (now (bytes .entry)))) 64 root)) ⌝ }
-    ensures memory { λ _. ⌜ now (work .exit) ≡ clearedTo workSize (now (work .entry)) ⌝ }
+    ensures memory { λ _. ⌜ SamePast (now (work .exit)) (now (work .entry)) ⌝ }
 {
     let nodes = nodes::node_count(bytes);
-    verdict::clear(work);
+    verdict::clear_to(work, nodes);
     let walked = walk(bytes, work, root, DEPTH);
-    let full = look_and_clear(work, nodes);
+    let full = verdict::all_marked(work, nodes);
     if walked { full } else { false }
 }
 
@@ -98,12 +87,12 @@ fn covers(bytes: &[u8], work: &mut [u8]) -> bool
     requires closed { ⌜ RightHeader (now bytes) × Closed (partsOf (now bytes)) ⌝ }
     requires room { ⌜ workSize ≤ length (now work) ⌝ }
     ensures answer { λ r. ⌜ r ≡ once (partsOf (now (bytes .entry)) .faces) (leafFaces (nodesOf (partsOf (now (bytes .entry)))) (faceOf (partsOf (now (bytes .entry)))) (partsOf (now (bytes .entry)) .nodes)) ⌝ }
-    ensures memory { λ _. ⌜ now (work .exit) ≡ clearedTo workSize (now (work .entry)) ⌝ }
+    ensures memory { λ _. ⌜ SamePast (now (work .exit)) (now (work .entry)) ⌝ }
 {
     let faces = nodes::face_count(bytes);
-    verdict::clear(work);
+    verdict::clear_to(work, faces);
     let apart = mark_faces(bytes, work);
-    let full = look_and_clear(work, faces);
+    let full = verdict::all_marked(work, faces);
     if apart { full } else { false }
 }
 
@@ -112,10 +101,9 @@ fn one_tree(bytes: &[u8], work: &mut [u8]) -> bool
     requires closed { ⌜ RightHeader (now bytes) × Closed (partsOf (now bytes)) ⌝ }
     requires room { ⌜ workSize ≤ length (now work) ⌝ }
     ensures answer { λ r. ⌜ r ≡ oneTree (nodesOf (partsOf (now (bytes .entry)))) (faceOf (partsOf (now (bytes .entry)))) (partsOf (now (bytes .entry)) .root) (partsOf (now (bytes .entry)) .nodes) (partsOf (now (bytes .entry)) .faces) ⌝ }
-    ensures memory { λ _. ⌜ now (work .exit) ≡ clearedTo workSize (now (work .entry)) ⌝ }
+    ensures memory { λ _. ⌜ SamePast (now (work .exit)) (now (work .entry)) ⌝ }
 {
     if nodes::node_count(bytes) == 0 {
-        verdict::clear(work);
         return true;
     }
     let root = tables::root_of(bytes) as usize;
@@ -227,7 +215,7 @@ pub fn tree_verdict(bytes: &[u8], work: &mut [u8]) -> Answer
     requires sound { ⌜ Finite (partsOf (now bytes)) × Cornered (partsOf (now bytes)) × Closed (partsOf (now bytes)) ⌝ }
     requires room { ⌜ RightHeader (now bytes) × (workSize ≤ length (now work)) ⌝ }
     ensures answer { λ r. ⌜ r ≡ rules13to14 (partsOf (now (bytes .entry))) ⌝ }
-    ensures memory { λ _. ⌜ now (work .exit) ≡ clearedTo workSize (now (work .entry)) ⌝ }
+    ensures memory { λ _. ⌜ SamePast (now (work .exit)) (now (work .entry)) ⌝ }
 {
     let whole = one_tree(bytes, work);
     let a = verdict::first_rule(13, !whole, 0);

@@ -9,7 +9,7 @@ use native.Mathlib.Omega.{arith}
 use native.Mathlib.Decide.{decLt}
 use borrow.Author.Tests.{lt-ltb, le-ltb, ltb-true, ltb-false, not-true, not-false}
 use Rattle.verdict.specs.Lowest.{lowest, anyUnder, allUnder, IsLowest}
-use Rattle.verdict.proofs.Bools.{clash, not-of-true, not-of-false}
+use Rattle.verdict.proofs.Bools.{clash, test, not-of-true, not-of-false}
 
 module _ (p : ℕ → Bool) where
   -- where a loop starts
@@ -109,6 +109,15 @@ module _ (p : ℕ → Bool) where
   unfolding anyUnder
   found-under n h = let l = ltb-true (lowest n p) n h in (l, lowest-is n .holds l)
 
+  -- one number more, of which the test does not hold
+  pub any-more : (n : ℕ) → p n ≡ false → anyUnder (suc n) p ≡ anyUnder n p
+  any-more n e =
+      test (anyUnder n p)
+      (λ y. let f = found-under n y in some-under (suc n) (lowest n p) (omega (arith, f .0)) (f .1) ∙ sym y)
+      (λ y. under-none (suc n)
+      (λ j l. ⊎-elim (λ (q : j ≡ n). subst (λ (k : ℕ). p k ≡ false) (sym q) e) (λ (q : j < n). none-under n y j q) (eq-or-lt-of-le (le-of-suc-le-suc l)))
+      ∙ sym y)
+
 -- two tests that agree under n
 pub lowest-same : (n : ℕ) (p q : ℕ → Bool) → ((k : ℕ) → k < n → p k ≡ q k) → lowest n p ≡ lowest n q
 lowest-same n p q f =
@@ -133,6 +142,18 @@ module _ (p : ℕ → Bool) where
   pub true-all : (n : ℕ) → ((k : ℕ) → k < n → p k ≡ true) → allUnder n p ≡ true
   unfolding allUnder
   true-all n f = not-of-false (anyUnder n (λ j. not (p j))) (under-none (λ j. not (p j)) n (λ j l. not-of-true (p j) (f j l)))
+
+  -- a loop that looks at all: where it starts, and one number more that fails or passes
+  pub all-none : true ≡ allUnder 0 p
+  all-none = sym (true-all 0 (λ k l. absurd (omega arith)))
+
+  pub all-fails : (i : ℕ) → p i ≡ false → false ≡ allUnder (i + 1) p
+  unfolding allUnder
+  all-fails i e = ap not (sym (some-under (λ k. not (p k)) (i + 1) i (omega arith) (not-of-false (p i) e)))
+
+  pub all-more : (i : ℕ) → p i ≡ true → allUnder i p ≡ allUnder (i + 1) p
+  unfolding allUnder
+  all-more i e = rw add-one (ap not (sym (any-more (λ k. not (p k)) i (not-of-true (p i) e))))
 
   -- a loop that looks for one that fails
   pub all-hit : (i n : ℕ) → lowest i (λ k. not (p k)) ≡ i → p i ≡ false → i < n → false ≡ allUnder n p

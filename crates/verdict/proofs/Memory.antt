@@ -1,12 +1,13 @@
 -- Laws of the work memory: what clearing and marking leave. Assumes nothing.
-use Prim.Native.Nat.{ℕ, _+_, _<_, _≤_}
+use Prim.Native.Nat.{ℕ, zero, suc, _+_, _<_, _≤_}
 use native.Mathlib.Omega.{arith}
-use mathlib.Core.Path.{_≡_, refl, _∙_}
+use native.Mathlib.Numerals.{add-one}
+use mathlib.Core.Path.{_≡_, refl, sym, ap, _∙_}
 use mathlib.Core.List.{List, [], _∷_}
 use lib.ListN.{length, getD, set, drop, replicate, length-append, length-replicate, length-drop, getD-replicate, List·getD-append}
-use lib.Seq.{drop-at, drop-set-lt}
+use lib.Seq.{drop-set-lt}
 use borrow.Author.Fill.{fill-none, fill-more}
-use Rattle.verdict.specs.Memory.{clearedTo, isMarked, marked}
+use Rattle.verdict.specs.Memory.{workSize, clearedTo, past, SamePast, isMarked, marked}
 use Rattle.verdict.proofs.Bools.{test}
 use Rattle.verdict.proofs.Lists.{NoneFrom, none-head, none-tail}
 
@@ -27,17 +28,23 @@ module _ (n : ℕ) (w : List ℕ) where
   unfolding clearedTo
   getD-cleared k h = List·getD-append (replicate n 0) (drop n w) 0 k (simp length-replicate h) ∙ getD-replicate n k 0 0 h
 
-  pub drop-cleared : drop n (clearedTo n w) ≡ drop n w
-  unfolding clearedTo
-  drop-cleared = drop-at (replicate n 0) (drop n w) n (length-replicate n 0)
-
   -- clearing forgets what was there
-  pub cleared-same : (v : List ℕ) → drop n v ≡ drop n w → clearedTo n v ≡ clearedTo n w
+  cleared-same : (v : List ℕ) → drop n v ≡ drop n w → clearedTo n v ≡ clearedTo n w
   unfolding clearedTo
   cleared-same v e = rw e
 
-  pub cleared-twice : clearedTo n (clearedTo n w) ≡ clearedTo n w
-  cleared-twice = cleared-same (clearedTo n w) drop-cleared
+-- the work memory cleared: only what lies past it counts
+pub cleared-past : (v w : List ℕ) → SamePast v w → clearedTo workSize v ≡ clearedTo workSize w
+unfolding past
+cleared-past v w e = cleared-same workSize w v e
+
+-- ---- what lies past a place stays: where fewer bytes than that are cleared, and where numbers below it are marked
+
+pub drop-cleared : (n m : ℕ) (w : List ℕ) → m ≤ n → m ≤ length w → drop n (clearedTo m w) ≡ drop n w
+drop-cleared n zero w l h = ap (drop n) (sym (cleared-none w))
+drop-cleared n (suc m) w l h =
+    ap (drop n) (sym (rw add-one at (cleared-more m w (omega arith)))) ∙ drop-set-lt n (clearedTo m w) m 0 (omega arith)
+    ∙ drop-cleared n m w (omega arith) (omega arith)
 
 pub drop-marked : (n : ℕ) (l w : List ℕ) → NoneFrom n l → drop n (marked l w) ≡ drop n w
 unfolding marked
@@ -45,7 +52,3 @@ drop-marked n [] w h = refl
 drop-marked n (x ∷ l) w h =
     let ih = drop-marked n l (set w x 1) (none-tail n x l h) in
     test (isMarked w x) (λ y. rw y) (λ y. rw y (ih ∙ drop-set-lt n w x 1 (omega (arith, none-head n x l h))))
-
--- clear, mark, clear: as cleared once
-pub cleared-again : (n : ℕ) (l w : List ℕ) → NoneFrom n l → clearedTo n (marked l (clearedTo n w)) ≡ clearedTo n w
-cleared-again n l w h = cleared-same n w _ (drop-marked n l (clearedTo n w) h ∙ drop-cleared n w)

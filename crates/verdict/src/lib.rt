@@ -4,7 +4,7 @@ ghost use Prim.Native.Nat.{_≤_};
 ghost use lib.ListN.{length};
 ghost use Rattle.verdict.specs.Lowest.{allUnder};
 ghost use Rattle.verdict.specs.Verdict.{rule, _then_};
-ghost use Rattle.verdict.specs.Memory.{workSize, clearedTo, isMarked};
+ghost use Rattle.verdict.specs.Memory.{clearedTo, isMarked};
 ghost use Rattle.verdict.specs.Output.{noForm};
 
 // A number of document 01, 0 for acceptance, and a place.
@@ -23,7 +23,7 @@ pub struct Form {
 }
 
 // The size of the work memory.
-pub const WORK_SIZE: usize = 16384;
+pub const WORK_SIZE: usize = 65536;
 
 // One rule by itself.
 pub fn first_rule(number: u32, broken: bool, place: u32) -> Answer
@@ -59,29 +59,30 @@ pub fn refused_form(number: u32, place: u32) -> Form
     }
 }
 
-// Makes the work memory zero; what lies past it stays.
-pub fn clear(work: &mut [u8])
-    requires { ⌜ workSize ≤ length (now work) ⌝ }
-    ensures { λ _. ⌜ now (work .exit) ≡ clearedTo workSize (now (work .entry)) ⌝ }
+// Makes the first n bytes zero; what lies past them stays.
+pub fn clear_to(work: &mut [u8], n: usize)
+    requires { ⌜ n ≤ length (now work) ⌝ }
+    ensures { λ _. ⌜ now (work .exit) ≡ clearedTo n (now (work .entry)) ⌝ }
 {
-    let mut i = 0;
-    while i < WORK_SIZE {
-        work[i] = 0;
-        i += 1;
+    let mut k = 0;
+    while k < n {
+        work[k] = 0;
+        k += 1;
     }
 }
 
-// Whether the first n bytes are all marked.
+// Whether the first n bytes are all marked. It leaves at none of them, for so the machine looks at many at once.
 pub fn all_marked(work: &[u8], n: usize) -> bool
     requires { ⌜ n ≤ length (now work) ⌝ }
     ensures { λ r. ⌜ r ≡ allUnder n (isMarked (now (work .entry))) ⌝ }
 {
+    let mut full = true;
     let mut i = 0;
     while i < n {
         if work[i] == 0 {
-            return false;
+            full = false;
         }
         i += 1;
     }
-    true
+    full
 }

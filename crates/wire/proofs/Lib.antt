@@ -1,4 +1,5 @@
 pub mod Put
 pub mod Numbers
+pub mod Short
 pub mod Runs
 pub mod Signed

@@ -72,7 +72,7 @@ fn linked(what: &[u8], floor: &[u8], rooms: &[u8], work: &mut [u8]) {
 
 // The triangle that was made, checked against a layout.
 fn made(what: &[u8], floor: &[u8; 288], rooms: &[u8]) {
-    let mut work = [0u8; 16384];
+    let mut work = [0u8; verdict::WORK_SIZE];
     linked(what, floor, rooms, &mut work);
 }
 
@@ -122,9 +122,9 @@ fn in_order() {
 // No floor, with the work memory that a call needs and with a byte less.
 fn no_floor() {
     let two = b"beginlayout\nroomcount 0\ndonelayout\n";
-    let mut work = [0u8; 16384];
+    let mut work = [0u8; verdict::WORK_SIZE];
     linked(b"no floor", b"", two, &mut work);
-    let mut few = [0u8; 16383];
+    let mut few = [0u8; verdict::WORK_SIZE - 1];
     linked(b"work memory too short", b"", two, &mut few);
 }
 

@@ -36,9 +36,11 @@ pub fn partners(tables: &Tables) -> Checked<Vec<Option<usize>>> {
 
 /// Rule 16: adjacency entry h is the partner's number, else -1.
 pub fn adjacency_is_right(tables: &Tables, partners: &[Option<usize>]) -> Checked<()> {
+    let any_partner = planted(Fault::AnyPartner);
     refuse_lowest(16, partners.len(), |h| {
+        let entry = tables.word(Table::Adjacency, h / 3, h % 3);
         let wanted = partners[h].map_or(NO_PARTNER, |partner| partner as u32);
-        tables.word(Table::Adjacency, h / 3, h % 3) != wanted
+        entry != wanted && !(any_partner && (entry as usize) < partners.len())
     })
 }
 

@@ -10,9 +10,11 @@ use crate::fault::{planted, Fault};
 use tables::{Table, Tables};
 
 /// The least work memory, and how much of it is zero on return.
-pub const WORK: usize = 16_384;
+pub const WORK: usize = 65_536;
+/// What it was before M-106: cases and a fault go by it.
+pub const OLD_WORK: usize = 16_384;
 
-/// Reads a floor. The first 16,384 bytes of work memory are zero on return, unless there are fewer.
+/// Reads a floor. The first 65,536 bytes of work memory are zero on return, unless there are fewer.
 pub fn read(bytes: &[u8], work: &mut [u8]) -> Floor {
     match accepted(bytes, work) {
         Ok(tables) => Floor {
@@ -34,9 +36,13 @@ pub fn read(bytes: &[u8], work: &mut [u8]) -> Floor {
 /// The tables of an accepted floor, or the reader's refusal. Clears the work memory, as every caller
 /// of the reader must. This implementation keeps its own marks elsewhere.
 pub fn accepted<'a>(bytes: &'a [u8], work: &mut [u8]) -> Checked<Tables<'a>> {
-    refuse_if(work.len() < WORK, 20, 0)?;
+    let least = match planted(Fault::OldWork) {
+        true => OLD_WORK,
+        false => WORK,
+    };
+    refuse_if(work.len() < least, 20, 0)?;
     if !planted(Fault::WorkKept) {
-        work[..WORK].fill(0);
+        work[..least].fill(0);
     }
     check(bytes)
 }

@@ -4,7 +4,7 @@ use super::random::Random;
 use super::sessions::{self, Play};
 use super::texts::{self, Word};
 use super::{damage, floors, queries, text_damage};
-use crate::floor::WORK;
+use crate::floor::{OLD_WORK, WORK};
 use crate::{form, layout, sight};
 
 /// A call and its numbers. What an edit writes is handed over as 32 bits.
@@ -80,7 +80,7 @@ pub fn case(seed: u64, number: u64) -> Case {
 /// Work memory full of other bytes, now and then too little of it.
 fn work(random: &mut Random) -> Vec<u8> {
     let length = match random.under(20) {
-        0 => random.pick(&[0, 1, WORK - 1, WORK - 1, 8_192]),
+        0 => random.pick(&[0, 1, WORK - 1, WORK - 1, OLD_WORK, 40_000]),
         1..=4 => WORK + 1 + random.under(2_000),
         _ => WORK,
     };

@@ -1,14 +1,21 @@
 //! Damage to valid floors, aimed at each of the rules 1 to 19. One floor may be damaged twice or
 //! three times, so that the order of the rules is tried too.
 
+use super::finish::shuffle_faces;
 use super::floors::{self, any_wish, Wish};
 use super::model::Model;
+use super::pair_damage::{same_run, wrong_adjacency};
 use super::random::Random;
+use super::shapes::{crowded, shape, SHAPES};
 use crate::floor::mesh::walkable;
 use crate::floor::tables::{FIELDS, HEADER, LONGEST};
 use crate::words::{put_word, word_at};
 
 const NONE: u32 = 0xFFFF_FFFF;
+/// More faces than a floor of storeys has: the least number of a large floor.
+pub const LARGE: usize = 500;
+/// One floor in so many is large: they take far longer than the others.
+const RARE: usize = 150;
 
 /// A valid floor, laid out in either way.
 pub fn good(random: &mut Random) -> Vec<u8> {
@@ -21,24 +28,30 @@ fn any_model(random: &mut Random) -> Model {
     if random.once_in(60) {
         return floors::chain(random, 65);
     }
-    if random.once_in(300) {
+    if random.once_in(RARE) {
         return large_model(random);
     }
     let wish = any_wish(random);
     floors::floor(random, wish)
 }
 
+/// A floor for rules 15 and 16: a crowd, or a shape with its faces in order or in any.
 fn large_model(random: &mut Random) -> Model {
-    match random.under(3) {
-        0 => floors::large(random, 64, 32),
-        1 => floors::crowded(random, 4_096),
-        _ => floors::crowded(random, 500),
+    let faces = random.pick(&[LARGE, 4_096, 4_096]);
+    if random.once_in(5) {
+        return crowded(random, faces);
     }
+    let (kind, unwalkable) = (random.pick(&SHAPES), random.pick(&[0, 0, 9]));
+    let mut model = shape(random, kind, faces, unwalkable);
+    if random.once_in(2) {
+        shuffle_faces(&mut model, random);
+    }
+    model
 }
 
 /// A floor with some faces, so that there is something to damage; now and then as many as allowed.
 fn some_model(random: &mut Random) -> Model {
-    if random.once_in(300) {
+    if random.once_in(RARE) {
         return large_model(random);
     }
     let wish = any_wish(random);
@@ -50,20 +63,17 @@ fn some_model(random: &mut Random) -> Model {
     floors::floor(random, wish)
 }
 
-/// A floor damaged at one to three places, aimed at any rules, the later ones more often.
+/// A floor damaged at one to three places, aimed at any rules, the later ones more often. Large floors
+/// are rare, so most of them are kept for the two rules that they are made for.
 pub fn bad(random: &mut Random) -> Vec<u8> {
     let mut model = match random.once_in(8) {
         true => any_model(random),
         false => some_model(random),
     };
-    let times = random.pick(&[1, 1, 1, 1, 2, 2, 3]);
-    let aim = |random: &mut Random| match random.once_in(6) {
-        true => random.from_to(1, 6) as u32,
-        false => random.from_to(7, 19) as u32,
+    let aims = match model.faces.len() < LARGE || random.once_in(4) {
+        true => any_aims(random),
+        false => vec![random.pick(&[15, 16])],
     };
-    let mut aims: Vec<u32> = (0..times).map(|_| aim(random)).collect();
-    aims.sort_by(|one, other| other.cmp(one)); // the length last: the others need the header
-    aims.dedup();
     for aim in aims.iter().filter(|aim| **aim >= 8) {
         damage_model(&mut model, random, *aim);
     }
@@ -72,6 +82,19 @@ pub fn bad(random: &mut Random) -> Vec<u8> {
         damage_bytes(&mut bytes, random, *aim);
     }
     bytes
+}
+
+/// One to three rules, the last first.
+fn any_aims(random: &mut Random) -> Vec<u32> {
+    let times = random.pick(&[1, 1, 1, 1, 2, 2, 3]);
+    let aim = |random: &mut Random| match random.once_in(6) {
+        true => random.from_to(1, 6) as u32,
+        false => random.from_to(7, 19) as u32,
+    };
+    let mut aims: Vec<u32> = (0..times).map(|_| aim(random)).collect();
+    aims.sort_by(|one, other| other.cmp(one)); // the length last: the others need the header
+    aims.dedup();
+    aims
 }
 
 /// Bytes that are no floor at all, or a floor with some bytes changed anywhere.
@@ -354,41 +377,6 @@ fn small_box(model: &mut Model, random: &mut Random) {
     if drawn.is_finite() {
         node[side] = drawn.to_bits();
     }
-}
-
-/// Makes two walkable half-edges run the same way, without harm to any box.
-fn same_run(model: &mut Model, random: &mut Random) {
-    let walkable = model.adjacency.len();
-    if walkable == 0 {
-        return;
-    }
-    let face = random.under(walkable);
-    if random.once_in(2) {
-        model.faces[face].swap(0, 1);
-        return;
-    }
-    let mut copied = model.faces[random.under(walkable)];
-    copied.rotate_left(random.under(3));
-    model.faces[face] = copied;
-    for node in &mut model.nodes {
-        node[..3].fill((-3.0e38_f32).to_bits());
-        node[3..6].fill(3.0e38_f32.to_bits());
-    }
-}
-
-fn wrong_adjacency(model: &mut Model, random: &mut Random) {
-    let half_edges = 3 * model.adjacency.len();
-    if half_edges == 0 {
-        return;
-    }
-    let entry = &mut any(&mut model.adjacency, random)[random.under(3)];
-    *entry = match random.under(5) {
-        0 => NONE,
-        1 => random.under(half_edges) as u32,
-        2 => entry.wrapping_add(1),
-        3 => entry.wrapping_sub(1),
-        _ => random.odd_word(),
-    };
 }
 
 fn wrong_edge(model: &mut Model, random: &mut Random) {

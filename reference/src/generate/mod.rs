@@ -2,10 +2,13 @@
 
 pub mod cases;
 pub mod damage;
+pub mod finish;
 pub mod floors;
 pub mod model;
+pub mod pair_damage;
 pub mod queries;
 pub mod random;
 pub mod sessions;
+pub mod shapes;
 pub mod text_damage;
 pub mod texts;

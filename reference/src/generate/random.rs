@@ -60,8 +60,14 @@ impl Random {
         }
     }
 
+    /// Any bytes, eight from each number: lent work memory is long.
     pub fn bytes(&mut self, count: usize) -> Vec<u8> {
-        (0..count).map(|_| self.byte()).collect()
+        let mut bytes = Vec::with_capacity(count + 8);
+        while bytes.len() < count {
+            bytes.extend_from_slice(&self.word64().to_le_bytes());
+        }
+        bytes.truncate(count);
+        bytes
     }
 
     /// The bits of any finite float, now and then a zero of either sign.

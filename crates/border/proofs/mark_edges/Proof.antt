@@ -3,12 +3,13 @@ use borrow.Author.Needs.{needs}
 use native.Mathlib.Omega.{arith}
 use Prim.Native.Nat.{ℕ, _-_, _≤_}
 use mathlib.Core.Path.{_≡_, refl, sym, ap, ap₂, _∙_}
-use mathlib.Core.List.{List}
 use lib.ListN.{length, length-set}
 use denote.Ref.{now}
 use Rattle.verdict.specs.Lowest.{lowest}
 use Rattle.verdict.proofs.Lowest.{lowest-none, lowest-more, lowest-hit, lowest-done}
-use Rattle.tables.specs.Parts.{partsOf}
+use Rattle.verdict.specs.Memory.{clearedTo}
+use Rattle.tables.specs.Parts.{Parts, partsOf}
+use Rattle.pairs.specs.Halves.{halves}
 use Rattle.pairs.proofs.Halves.{few-walkable}
 use Rattle.border.specs.Loops.{wrongEdge}
 use Rattle.border.specs.Memory.{marksOf}
@@ -26,29 +27,38 @@ abbrev μ-loop : tie.MeasureT-loop
 loop-holds : tie.Need-loop-holds Inv-loop μ-loop
 loop-holds c = (omega arith, lowest-none _, refl, marks-none _ _)
 
+-- the places that are gone back to: the memory cleared, and the start
+abbrev at-clear : tie.At-loop Inv-loop μ-loop → tie.After-clear-to Inv-loop μ-loop
+at-clear l = l .before .before .before
+
+abbrev start : tie.At-loop Inv-loop μ-loop → tie.Start Inv-loop μ-loop
+start l = at-clear l .before .before .before .before .before .before
+
+abbrev parts : tie.At-loop Inv-loop μ-loop → Parts
+parts l = partsOf (now (start l .args .bytes))
+
+-- the memory is cleared as far as half-edges go, and is long enough for them
+cleared : (l : tie.At-loop Inv-loop μ-loop) → at-clear l .clear-to .last .0 ≡ clearedTo (halves (parts l)) (now (start l .args .work))
+cleared l = at-clear l .clear-to .ensures ∙ ap (λ (n : ℕ). clearedTo n (now (start l .args .work))) (at-clear l .before .halves-of .ensures .0)
+
+long : (l : tie.At-loop Inv-loop μ-loop) → halves (parts l) ≤ length (now (start l .args .work))
+long l = omega (arith, few-walkable (now (start l .args .bytes)) (start l .pre .0 .0), start l .pre .1)
+
 -- what `wrong_by` has told of entry i
-told : (c : tie.After-wrong-by Inv-loop μ-loop)
-    → wrongEdge (partsOf (now (c .before .before .before .before .before .before .before .before .before .before .before .args .bytes))) (c .before .before .before .loop .i) ≡ c .wrong-by .result
+told : (c : tie.After-wrong-by Inv-loop μ-loop) → let l = c .before .before .before in wrongEdge (parts l) (l .loop .i) ≡ c .wrong-by .result
 told c =
     let l = c .before .before .before in
-    let clear = l .before .before .before in
-    let s = clear .before .before .before .before .before in
-    let b = now (s .args .bytes) in
-    told-by (partsOf b) (now (s .args .work)) _ (s .pre .1) (clear .clear .ensures) (few-walkable b (s .pre .0 .0)) (l .loop .i) (l .loop .work) (c .wrong-by .result) (l .loop .inv .3)
-    (c .wrong-by .ensures)
+    told-by (parts l) (now (start l .args .work)) _ (long l) (cleared l) (l .loop .i) (l .loop .work) (c .wrong-by .result) (l .loop .inv .3) (c .wrong-by .ensures)
 
 returns : tie.Need-returns Inv-loop μ-loop
 returns c =
     let l = c .before .before .before .before in
-    let clear = l .before .before .before in
-    let s = clear .before .before .before .before .before in
-    (sym (lowest-hit _ _ _ (l .loop .inv .1) (told (c .before) ∙ c .if1 .taken) (search needs)), l .loop .inv .3 ∙ ap (λ (w : List ℕ). marksOf (partsOf (now (s .args .bytes))) (l .loop .i) w) (clear .clear .ensures))
+    (sym (lowest-hit _ _ _ (l .loop .inv .1) (told (c .before) ∙ c .if1 .taken) (search needs)), l .loop .inv .3 ∙ ap (marksOf (parts l) (l .loop .i)) (cleared l))
 
 slice-write-work : tie.Need-slice-write-work Inv-loop μ-loop
 slice-write-work c =
-    let clear = c .before .before .before .before .before .before .before .before in
-    let s = clear .before .before .before .before .before in
-    omega (arith, edge-in _ _ (told (c .before .before) ∙ c .before .if1 .left), few-walkable (now (s .args .bytes)) (s .pre .0 .0), s .pre .1, clear .clear .kept .0)
+    let l = c .before .before .before .before .before in
+    omega (arith, edge-in _ _ (told (c .before .before) ∙ c .before .if1 .left), long l, at-clear l .clear-to .kept .0)
 
 loop-again : tie.Need-loop-again Inv-loop μ-loop
 loop-again c =
@@ -57,12 +67,10 @@ loop-again c =
 
 returns-2 : tie.Need-returns-2 Inv-loop μ-loop
 returns-2 c =
-    let l = c .before .loop in
-    let clear = c .before .before .before .before in
-    let count = clear .before .before .edges-of in
-    let s = clear .before .before .before .before .before in
-    let e : l .i ≡ count .result = omega arith in
-    (count .ensures .0 ∙ lowest-done _ _ _ (l .inv .1) (search needs), l .inv .3 ∙ ap₂ (λ (k : ℕ) (w : List ℕ). marksOf (partsOf (now (s .args .bytes))) k w) e (clear .clear .ensures))
+    let l = c .before in
+    let count = at-clear l .before .before .before .edges-of in
+    let e : l .loop .i ≡ count .result = omega arith in
+    (count .ensures .0 ∙ lowest-done _ _ _ (l .loop .inv .1) (search needs), l .loop .inv .3 ∙ ap₂ (marksOf (parts l)) e (cleared l))
 
 pub mark-edges-spec : {M : Type 1} → statement M
-mark-edges-spec = tie.close (tie.spec Inv-loop μ-loop (search needs) (search needs) loop-holds (search needs) (search needs) returns (search needs) slice-write-work (search needs) (search needs) loop-again (search needs) returns-2)
+mark-edges-spec = tie.close (tie.spec Inv-loop μ-loop (search needs) (search needs) (search needs) loop-holds (search needs) (search needs) returns (search needs) slice-write-work (search needs) (search needs) loop-again (search needs) returns-2)

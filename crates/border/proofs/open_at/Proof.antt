@@ -22,8 +22,8 @@ returns c =
       ← c .before .before .before .before .after-of .ensures .0,
       ← c .before .before .before .edge-of .ensures,
       ← c .before .before .edge-of2 .ensures,
-      ← c .before .to-of .ensures,
-      ← c .from-of .ensures,
+      ← c .before .to-of .ensures .0,
+      ← c .from-of .ensures .0,
     )
 
 pub open-at-spec : {M : Type 1} → statement M

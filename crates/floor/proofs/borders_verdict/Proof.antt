@@ -1,7 +1,7 @@
 -- Partners, then edge entries and loops. Assumes nothing.
 use borrow.Author.Needs.{needs}
 use native.Mathlib.Omega.{arith}
-use Rattle.tree.proofs.Rule13.{twice}
+use mathlib.Core.Path.{_∙_}
 use Rattle.floor.specs.Groups.{rules15to19}
 use Rattle.floor.proofs.Order.{stops, goes-on, zero}
 use Rattle.floor.proofs.borders_verdict.Statement.{statement}
@@ -23,7 +23,7 @@ returns-2 c =
     let b = c .before .before .loops-verdict in
     let e = c .before .before .before .before in
     let a = e .before .before .before .before .pairs-verdict in
-    (goes-on _ _ _ _ (a .ensures .0) (e .if1 .left) (b .ensures .0), twice _ _ _ (a .ensures .1) (b .ensures .1))
+    (goes-on _ _ _ _ (a .ensures .0) (e .if1 .left) (b .ensures .0), b .ensures .1 ∙ a .ensures .1)
 
 pub borders-verdict-spec : {M : Type 1} → statement M
 borders-verdict-spec = tie.close (tie.spec (search needs) (search needs) returns loops-verdict-requires (search needs) returns-2)

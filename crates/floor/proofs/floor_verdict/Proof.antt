@@ -1,9 +1,7 @@
 -- The header, then the shape, then the tree and the borders. Assumes nothing.
 use borrow.Author.Needs.{needs}
-use mathlib.Core.Path.{refl, ap, _∙_}
+use mathlib.Core.Path.{refl}
 use denote.Ref.{now}
-use Rattle.verdict.specs.Memory.{workSize, clearedTo}
-use Rattle.verdict.proofs.Memory.{cleared-twice}
 use Rattle.tables.specs.Header.{RightHeader}
 use Rattle.tables.specs.Parts.{partsOf}
 use Rattle.floor.specs.Groups.{rules1to19}
@@ -47,7 +45,7 @@ returns-3 c =
     let e = f .before .before .before in (
       goes-on _ _ _ _ (e .before .before .header-verdict .ensures) (e .if1 .left)
           (goes-on _ _ _ _ (f .before .before .shape-verdict .ensures) (f .if2 .left) (b .ensures .0)),
-      ap (clearedTo workSize) (b .ensures .1) ∙ cleared-twice workSize _,
+      b .ensures .1,
     )
 
 pub floor-verdict-spec : {M : Type 1} → statement M

@@ -1,7 +1,7 @@
 -- The tree, then the borders. Assumes nothing.
 use borrow.Author.Needs.{needs}
 use native.Mathlib.Omega.{arith}
-use Rattle.tree.proofs.Rule13.{twice}
+use mathlib.Core.Path.{_∙_}
 use Rattle.floor.specs.Groups.{rules13to19}
 use Rattle.floor.proofs.Order.{stops, goes-on}
 use Rattle.floor.proofs.tree_and_borders.Statement.{statement}
@@ -23,7 +23,7 @@ returns-2 c =
     let b = c .before .before .borders-verdict in
     let e = c .before .before .before .before in
     let a = e .before .before .before .before .tree-verdict in
-    (goes-on _ _ _ _ (a .ensures .0) (e .if1 .left) (b .ensures .0), twice _ _ _ (a .ensures .1) (b .ensures .1))
+    (goes-on _ _ _ _ (a .ensures .0) (e .if1 .left) (b .ensures .0), b .ensures .1 ∙ a .ensures .1)
 
 pub tree-and-borders-spec : {M : Type 1} → statement M
 tree-and-borders-spec = tie.close (tie.spec (λ c κs. search needs) (search needs) returns borders-verdict-requires (search needs) returns-2)

@@ -1,4 +1,4 @@
--- The table says it of 0 to 22. Assumes nothing.
+-- The bits say it of 0 to 22. Assumes nothing.
 use borrow.Author.Needs.{needs}
 use Rattle.mesh.proofs.Walkable.{flag-walkable, past-walkable}
 use Rattle.mesh.proofs.is_walkable.Statement.{statement}

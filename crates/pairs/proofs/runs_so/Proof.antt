@@ -7,11 +7,11 @@ use Rattle.pairs.proofs.runs_so.Tie as tie
 
 returns : tie.Need-returns
 unfolding runs
-returns c = rw (← c .before .before .from-of .ensures, ← c .to-of .ensures, eq-eqb _ _ (c .before .if1 .taken))
+returns c = rw (← c .before .before .from-of .ensures .0, ← c .to-of .ensures .0, eq-eqb _ _ (c .before .if1 .taken))
 
 returns-2 : tie.Need-returns-2
 unfolding runs
-returns-2 c = rw (← c .before .from-of .ensures, ne-eqb _ _ (c .if1 .left))
+returns-2 c = rw (← c .before .from-of .ensures .0, ne-eqb _ _ (c .if1 .left))
 
 pub runs-so-spec : {M : Type 1} → statement M
 runs-so-spec = tie.close (tie.spec (search needs) (search needs) returns returns-2)
