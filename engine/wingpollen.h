@@ -101,7 +101,9 @@ wp_form wp_rewrite(const uint8_t *bytes, size_t bytes_length, uint8_t *work, siz
 wp_point wp_query(const uint8_t *bytes, size_t bytes_length, uint8_t *work, size_t work_length,
                   int32_t x, int32_t y);
 
-/* Edits. A nudge's place is 0 to 11, one of the floats of the use positions; its step is in sixty-fourths. */
+/* Edits. A nudge's place is 0 to 11, one of the floats of the use positions; its step is in sixty-fourths. Two edits that
+   differ in call or place, each accepted on the same floor with journal room for both, leave the same floor in either
+   order. Of two paints of one face, or two links of one entry, the later counts; two nudges of one place add up. */
 wp_session wp_paint(uint8_t *floor, size_t floor_length, uint8_t *journal, size_t journal_length,
                     uint32_t f, uint32_t k, uint32_t face, uint32_t material);
 wp_session wp_link(uint8_t *floor, size_t floor_length, uint8_t *journal, size_t journal_length,

@@ -1,7 +1,8 @@
 // calls.cpp: the fuzz target over the exported calls. An input is a head of 28 bytes that chooses the call, how its
 // slices lie and what its numbers are, and then the slices' bytes (seeds.py writes such inputs). After each call the
 // answer and all lent memory are held to what document 01 says without a second implementation at hand: refusals change
-// nothing, work memory comes back cleared, forms read back, edits are undone to the byte.
+// nothing, work memory comes back cleared, forms read back, edits are undone to the byte, and the order of two edits counts
+// no more than document 02's M-107 lets it.
 //
 // The archive is not compiled for fuzzing. So each slice lies against a page that can be neither read nor written, with
 // guard bytes on its other side; and which numbers were answered at which places is told to the fuzzer as coverage.
@@ -22,6 +23,7 @@ namespace {
 constexpr std::size_t page = 4096, room = 32 * page, guard = 64;
 constexpr std::uint8_t guard_byte = 0xA5;
 constexpr std::size_t calls = 16, numbers = 43, places = 32;
+constexpr std::int32_t largest_step = 640;
 
 // Read by libFuzzer after each input; a plain section for everyone else.
 __attribute__((section("__libfuzzer_extra_counters"))) std::uint8_t coverage[calls * numbers * places];
@@ -237,6 +239,53 @@ struct Game {
         grade(0, answer.visited), grade(1, answer.found), grade(2, answer.face);
     }
 
+    // An edit, its tag as in a record.
+    struct Edit {
+        std::uint32_t tag, place, value;
+    };
+
+    // What some edits leave of the floor and the journal lent, and the number that the last of them answered.
+    struct Left {
+        Owned floor, journal;
+        std::uint32_t number, f, k;
+    };
+
+    static Left after(Left from, const Edit& edit) {
+        const auto value = static_cast<std::int32_t>(edit.value);
+        const auto make = [&from](auto call, std::uint32_t place, auto what) {
+            return call(inside::to_write(from.floor), from.floor.size(), inside::to_write(from.journal),
+                        from.journal.size(), from.f, from.k, place, what);
+        };
+        const wp_session answer = edit.tag == 1   ? make(wp_paint, edit.place, edit.value)
+                                  : edit.tag == 2 ? make(wp_link, edit.place, value)
+                                                  : make(wp_nudge, edit.place, value);
+        return {std::move(from.floor), std::move(from.journal), answer.number, answer.f, answer.k};
+    }
+
+    // M-107: an accepted edit and a second one, which the third slice says, in both orders from the same start.
+    void either_order(const Edit& one) const {
+        Input input(third.before.data(), third.before.size());
+        Edit other{input.number(1) % 3 + 1, input.number(4), input.number(4)};
+        const Left start{first.before, second.before, 0, f, k};
+        const Left by_one = after(start, one), by_other = after(start, other);
+        const Left both = after(by_one, other), turned = after(by_other, one);
+        const bool room = k + std::uint64_t{2} <= WP_RECORDS && WP_RECORD * (k + std::uint64_t{2}) <= second.length;
+        if (one.tag != other.tag || one.place != other.place) {
+            if (by_other.number != 0 || !room) return;
+            require(both.number == 0 && turned.number == 0, "an edit of another field stands in the way");
+            return require(both.floor == turned.floor, "the order of edits of different fields counts");
+        }
+        if (both.number != 0) return;
+        if (one.tag != 3) {
+            return require(by_other.number == 0 && both.floor == by_other.floor, "the later edit does not count alone");
+        }
+        other.value += one.value;  // two permitted steps, so the sum is no other number
+        const Left sum = after(start, other);
+        const bool permitted = std::abs(static_cast<std::int32_t>(other.value)) <= largest_step;
+        require(sum.number == (permitted ? 0 : 24), "a nudge by the sum is judged otherwise");
+        require(!permitted || both.floor == sum.floor, "two nudges are not one by the sum");
+    }
+
     template <class Call, class Value>
     void edit(Call call, std::uint32_t place, Value value) {
         const wp_session answer = call(first.data, first.length, second.data, second.length, f, k, place, value);
@@ -266,6 +315,7 @@ struct Game {
         while (from < to && floor[from] == first.before[from]) ++from;
         while (from < to && floor[to - 1] == first.before[to - 1]) --to;
         require(to - from <= 4, "more than four bytes of the floor were written");
+        either_order({static_cast<std::uint32_t>(now - 2), place, static_cast<std::uint32_t>(value)});
         // What an edit promises of later calls, it promises of floors that the reader accepts.
         const wp_floor opened = accepts(first.before);
         if (opened.number != 0) return;

@@ -1,6 +1,6 @@
 #!/usr/bin/env python3
 """Writes the fuzz target's first inputs: seeds.py FOLDER. Each is a head of 28 bytes and then the slices, as calls.cpp reads
-them: the sample floors under every call over a floor, small journals, and texts that read and texts that do not."""
+them: the sample floors under every call over a floor, small journals, pairs of edits, and texts that read and texts that do not."""
 import importlib.util, pathlib, struct, sys
 
 READ, REWRITE, QUERY, PAINT, LINK, NUDGE, UNDO, REDO, PUT_BACK, LAYOUT, LAYOUT_NAME, SIGHT, SIGHT_NAME, ROW, CHECK, CAPTION = range(16)
@@ -18,6 +18,11 @@ def case(call, first, second=b"", third=b"", f=0, k=0, a=0, b=0, work=65536, out
 
 def record(tag, place, old, new):
     return struct.pack("<BHIII", tag, 12, place, old, new)
+
+
+def second_edit(call, place, value):
+    """The edit that is made beside the first one, in both orders."""
+    return struct.pack("<BII", call - PAINT, place, value & make.NONE)
 
 
 LAYOUTS = [
@@ -50,6 +55,10 @@ def cases():
             yield case(PAINT, data, journal, a=0, b=5)
             yield case(LINK, data, journal, a=1, b=63)
             yield case(NUDGE, data, journal, a=11, b=-640)
+        edits = ((PAINT, 0, 5), (PAINT, 0, 3), (LINK, 0, 9), (LINK, 0, -1), (LINK, 1, 2), (NUDGE, 0, 640), (NUDGE, 0, -640), (NUDGE, 1, 1))
+        for call, a, b in edits:
+            for other in edits:
+                yield case(call, data, bytes(30), second_edit(*other), a=a, b=b)
         yield case(PAINT, data, bytes(30), f=2, k=1, a=0, b=7)
         yield case(PAINT, data, bytes(30), f=2, k=1, a=0, b=5)
         yield case(NUDGE, make.changed(data, 12, 0x80000000), bytes(15), a=0, b=0)

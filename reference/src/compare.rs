@@ -1,4 +1,5 @@
-//! Runs cases on two sides and compares every answer and every byte of every lent slice.
+//! Runs cases on two sides and compares every answer and every byte of every lent slice. With a pair of
+//! edits each side is also held to what M-107 says of their order.
 
 use crate::answer::Fields;
 use crate::calls::Calls;
@@ -8,6 +9,7 @@ use crate::generate::cases::{case, Call, Case, Lent};
 use crate::generate::damage::LARGE;
 use crate::generate::sessions::{Move, Play};
 use crate::journal::{LINK, PAINT};
+use crate::order;
 use crate::words::word_at;
 use std::collections::{BTreeMap, BTreeSet};
 
@@ -30,11 +32,18 @@ pub struct Done {
 pub const GUARD: usize = 37;
 const GUARD_BYTE: u8 = 0xA5;
 
-/// Runs a case on one side: one call, or the calls of a session.
+/// Runs a case on one side: one call, the calls of a session, or all that is played with a pair.
 pub fn run(case: &Case, side: &Side) -> Vec<Done> {
     match case {
         Case::One { call, lent } => vec![run_call(*call, lent, side)],
         Case::Session(play) => run_session(play, side),
+        Case::Pair(pair) => {
+            let plays = pair.plays();
+            plays
+                .iter()
+                .flat_map(|play| run_session(play, side))
+                .collect()
+        }
     }
 }
 
@@ -144,7 +153,7 @@ pub fn differences(one: &[Done], other: &[Done]) -> Vec<String> {
             }
         }
         for ((name, left), (_, right)) in one.memory.iter().zip(&other.memory) {
-            if let Some(at) = (0..left.len()).find(|&at| left[at] != right[at]) {
+            if let Some(at) = first_difference(left, right) {
                 found.push(format!(
                     "call {number} {}: {name} byte {} is {:02x}, other {:02x}",
                     one.call,
@@ -154,6 +163,29 @@ pub fn differences(one: &[Done], other: &[Done]) -> Vec<String> {
                 ));
             }
         }
+    }
+    found
+}
+
+/// The first byte at which two buffers of one length differ.
+pub fn first_difference(left: &[u8], right: &[u8]) -> Option<usize> {
+    (0..left.len()).find(|&at| left[at] != right[at])
+}
+
+/// All that is wrong with what both sides did in one case, in words: which sentence about the order
+/// of edits either of them broke, and where they differ.
+pub fn wrong(case: &Case, sides: [&Side; 2], done: [&[Done]; 2]) -> Vec<String> {
+    let mut found = Vec::new();
+    if let Case::Pair(pair) = case {
+        for (side, all) in sides.iter().zip(done) {
+            for sentence in order::broken(pair, all) {
+                found.push(format!("{} breaks: {sentence}", side.calls.name));
+            }
+        }
+    }
+    let [one, other] = done;
+    if one != other {
+        found.extend(differences(one, other));
     }
     found
 }
@@ -171,12 +203,19 @@ pub struct Tally {
     /// them were refused at the last half-edge.
     pub large: BTreeMap<u64, usize>,
     pub large_at_last: BTreeMap<u64, usize>,
+    /// How many pairs of edits were accepted, and what they tried.
+    pub pairs: order::Counts,
     pub cases: u64,
     pub different: u64,
 }
 
 impl Tally {
-    pub fn add(&mut self, all: &[Done]) {
+    /// Adds what one side did in a case.
+    pub fn add(&mut self, case: &Case, all: &[Done]) {
+        self.cases += 1;
+        if let Case::Pair(pair) = case {
+            self.pairs.add(pair, all);
+        }
         for one in all {
             let number = one.fields[0].1;
             *self.calls.entry(one.call).or_default() += 1;
@@ -226,7 +265,7 @@ impl Tally {
         by_call.map_or(0, |by_call| by_call.values().sum())
     }
 
-    /// Both tables, the roots, the large floors and the last line.
+    /// Both tables, the roots, the large floors, the pairs of edits and the last line.
     pub fn print(&self) {
         println!("{:<16}{:>9}", "call", "calls");
         for (call, count) in &self.calls {
@@ -252,12 +291,13 @@ impl Tally {
             "floors of {LARGE} faces and more by number {:?}, of which at the last half-edge {:?}",
             self.large, self.large_at_last
         );
+        println!("{}", self.pairs.line());
         println!("{} cases, {} differences", self.cases, self.different);
     }
 }
 
 /// Runs cases 0 to `cases` - 1 of a seed on both sides. Tells each before it starts, and then each
-/// that was different.
+/// in which the sides differ or one of them breaks a sentence about pairs.
 pub fn compare(
     cases: u64,
     seed: u64,
@@ -270,11 +310,11 @@ pub fn compare(
         starts(number);
         let case = case(seed, number);
         let [one, other] = sides.map(|side| run(&case, side));
-        tally.add(&one);
-        tally.cases += 1;
-        if one != other {
+        tally.add(&case, &one);
+        let found = wrong(&case, sides, [&one, &other]);
+        if one != other || !found.is_empty() {
             tally.different += 1;
-            differs(number, differences(&one, &other));
+            differs(number, found);
         }
     }
     tally

@@ -38,10 +38,14 @@ pub enum Fault {
     RootFirst,
     /// A root field that must be 0 where there are no nodes.
     RootOfNone,
+    /// An edit that writes a record but no floor after the first.
+    RecordOnly,
+    /// A paint that writes eight bytes, the next face's material too.
+    WidePaint,
 }
 
 /// All faults with the names by which they are asked for.
-pub const FAULTS: [(&str, Fault); 16] = [
+pub const FAULTS: [(&str, Fault); 18] = [
     ("minus-zero", Fault::MinusZero),
     ("full-by-f", Fault::FullByF),
     ("children-from-one", Fault::ChildrenFromOne),
@@ -58,6 +62,8 @@ pub const FAULTS: [(&str, Fault); 16] = [
     ("any-partner", Fault::AnyPartner),
     ("root-first", Fault::RootFirst),
     ("root-of-none", Fault::RootOfNone),
+    ("record-only", Fault::RecordOnly),
+    ("wide-paint", Fault::WidePaint),
 ];
 
 thread_local! {

@@ -16,7 +16,7 @@ pub const MOST_RECORDS: u32 = 4_096;
 /// The length that every record states: place, old and new bytes.
 const STATED_LENGTH: [u8; 2] = [12, 0];
 /// One nudge adds at most so many sixty-fourths, either way.
-const LARGEST_STEP: i64 = 640;
+pub const LARGEST_STEP: i64 = 640;
 
 /// The tags of the three edits.
 pub const PAINT: u8 = 1;
@@ -156,11 +156,22 @@ fn edit(
 ) -> Session {
     match checked_edit(floor, journal.len(), (f, k), (tag, place), change) {
         Ok((at, record)) => {
-            put_word(floor, at, record.new);
+            lay_new(floor, at, record, k);
             journal[k as usize * RECORD..][..RECORD].copy_from_slice(&record.bytes());
             session(0, 0, k + 1, k + 1)
         }
         Err(refusal) => session(refusal.number, refusal.place, f, k),
+    }
+}
+
+/// Writes the new four bytes of record k on the floor.
+fn lay_new(floor: &mut [u8], at: usize, record: Record, k: u32) {
+    if planted(Fault::RecordOnly) && k > 0 {
+        return;
+    }
+    put_word(floor, at, record.new);
+    if planted(Fault::WidePaint) && record.tag == PAINT && at + 8 <= floor.len() {
+        put_word(floor, at + 4, 0);
     }
 }
 

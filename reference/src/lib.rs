@@ -15,6 +15,7 @@ pub mod grid;
 pub mod journal;
 pub mod layout;
 pub mod links;
+pub mod order;
 pub mod query;
 pub mod sight;
 pub mod sorted;

@@ -194,7 +194,7 @@ fn a_case_is_the_same_each_time() {
 #[test]
 fn outputs_of_the_exact_size_and_one_less_occur() {
     let (mut exact, mut less) = (0, 0);
-    for number in 0..2_000 {
+    for number in 0..3_000 {
         if let Case::One {
             call: Call::Rewrite,
             lent,

@@ -1,16 +1,17 @@
 -- Laws of the nudge: when it may be made, that it is exact, that zero is written as positive zero. Assumes nothing.
 use mathlib.Core.Path.{_≡_, refl, sym, ap, _∙_}
 use Prim.Native.Nat.{ℕ, _≤_, _<_}
+use native.Mathlib.Omega.{arith}
 use native.Mathlib.Nat.{le-trans}
 use mathlib.Core.Bool.{true, false, _&&_}
-use lib.IntN.{ℤ, pos, natAbs, _+ℤ_}
+use lib.IntN.{ℤ, pos, natAbs, _+ℤ_, +ℤ-assoc}
 use lib.Dec.{lit≤}
 use lib.Ieee.{binary32, round, add, ofBits, toBits}
 use lib.Ieee.Bits.{ofBits-fits, ofBits-toBits, toBits-ofBits, toBits-lt}
-use borrow.Author.Tests.{leb-true, le-leb}
+use borrow.Author.Tests.{leb-true, le-leb, lt-leb}
 use Rattle.verdict.proofs.Bools.{and-true, and-no}
-use Rattle.grid.specs.Grid.{finite, onGrid, scaled, gridFloat, within, mayNudge, nudgeBits}
-use Rattle.grid.specs.Plain.{OnGrid, MayNudge}
+use Rattle.grid.specs.Grid.{finite, onGrid, scaled, gridFloat, within, largestStep, mayNudge, nudgeBits}
+use Rattle.grid.specs.Plain.{OnGrid, PermittedStep, MayNudge}
 use Rattle.grid.proofs.Grid.{on-grid, grid-on, grid-finite, finite-number, gridFloat-on, gridFloat-scaled, gridFloat-fits, add-grid, minusZero, grid-unique}
 
 -- ---- the test is the plain proposition
@@ -19,24 +20,27 @@ module _ (b : ℕ) (n : ℤ) where
   unfolding mayNudge
   may h =
       let x = ofBits binary32 b in
-      let t = and-true (within 640 n && onGrid x) (within 65536 (scaled x +ℤ n)) h in
-      let u = and-true (within 640 n) (onGrid x) (t .0) in
-      record { step = leb-true (natAbs n) 640 (u .0); on = on-grid x (u .1); to = leb-true (natAbs (scaled x +ℤ n)) 65536 (t .1) }
+      let t = and-true (within largestStep n && onGrid x) (within 65536 (scaled x +ℤ n)) h in
+      let u = and-true (within largestStep n) (onGrid x) (t .0) in
+      record { step = leb-true (natAbs n) largestStep (u .0); on = on-grid x (u .1); to = leb-true (natAbs (scaled x +ℤ n)) 65536 (t .1) }
 
   pub may-back : MayNudge b n → mayNudge b n ≡ true
   unfolding mayNudge
-  may-back m = simp (le-leb (natAbs n) 640 (m .step), grid-on (m .on), le-leb (natAbs (scaled (ofBits binary32 b) +ℤ n)) 65536 (m .to))
+  may-back m = simp (le-leb (natAbs n) largestStep (m .step), grid-on (m .on), le-leb (natAbs (scaled (ofBits binary32 b) +ℤ n)) 65536 (m .to))
 
   -- test by test
-  pub no-step : within 640 n ≡ false → mayNudge b n ≡ false
+  pub no-step : within largestStep n ≡ false → mayNudge b n ≡ false
   unfolding mayNudge
   no-step h = simp h
 
+  pub step-refused : (PermittedStep n → ⊥) → mayNudge b n ≡ false
+  step-refused far = no-step (lt-leb (natAbs n) largestStep (omega arith))
+
   pub no-grid : onGrid (ofBits binary32 b) ≡ false → mayNudge b n ≡ false
   unfolding mayNudge
-  no-grid h = rw (h, and-no (within 640 n))
+  no-grid h = rw (h, and-no (within largestStep n))
 
-  pub by-sum : within 640 n ≡ true → onGrid (ofBits binary32 b) ≡ true → mayNudge b n ≡ within 65536 (scaled (ofBits binary32 b) +ℤ n)
+  pub by-sum : within largestStep n ≡ true → onGrid (ofBits binary32 b) ≡ true → mayNudge b n ≡ within 65536 (scaled (ofBits binary32 b) +ℤ n)
   unfolding mayNudge
   by-sum h k = simp (h, k)
 
@@ -69,6 +73,19 @@ module _ (b : ℕ) (n : ℤ) where
   pub nudge-lt : nudgeBits b n < 4294967296
   unfolding nudgeBits
   nudge-lt = toBits-lt binary32 (gridFloat (scaled (ofBits binary32 b) +ℤ n)) (gridFloat-fits (scaled (ofBits binary32 b) +ℤ n))
+
+-- ---- TWO NUDGES, one after the other, are one nudge by the sum, where the sum is a permitted step
+module _ (b : ℕ) (n m : ℤ) (p : MayNudge b n) (q : MayNudge (nudgeBits b n) m) where
+  sum-to : scaled (ofBits binary32 (nudgeBits b n)) +ℤ m ≡ scaled (ofBits binary32 b) +ℤ (n +ℤ m)
+  sum-to = ap (λ (z : ℤ). z +ℤ m) (nudge-exact b n p) ∙ +ℤ-assoc (scaled (ofBits binary32 b)) n m
+
+  pub nudge-both : PermittedStep (n +ℤ m) → MayNudge b (n +ℤ m)
+  nudge-both h = record { step = h; on = p .on; to = rw sum-to at (q .to) }
+
+  -- the same bits, zero's sign too, whatever the sum
+  pub nudge-twice : nudgeBits (nudgeBits b n) m ≡ nudgeBits b (n +ℤ m)
+  unfolding nudgeBits
+  nudge-twice = ap (λ (z : ℤ). toBits binary32 (gridFloat z)) (unfold nudgeBits in sum-to)
 
 -- ---- one pattern for each number: bits on the grid are those of their scaled number, but for minus zero's
 pub bits-unique : (b : ℕ) → b < 4294967296 → OnGrid (ofBits binary32 b) → (b ≡ 2147483648 → ⊥) → toBits binary32 (gridFloat (scaled (ofBits binary32 b))) ≡ b

@@ -43,9 +43,13 @@ gridFloat (negsuc n) = round binary32 true (suc n) 64
 abbrev pub within : ℕ → ℤ → Bool
 within k z = leb (natAbs z) k
 
+-- the largest step of a nudge, either way
+abbrev pub largestStep : ℕ
+largestStep = 640
+
 -- a nudge by n of the float with the bits b is not refused by 24: the step is from -640 to 640, the old value on the grid, the new one not beyond it
 unfoldable pub mayNudge : ℕ → ℤ → Bool
-mayNudge b n = within 640 n && onGrid (ofBits binary32 b) && within 65536 (scaled (ofBits binary32 b) +ℤ n)
+mayNudge b n = within largestStep n && onGrid (ofBits binary32 b) && within 65536 (scaled (ofBits binary32 b) +ℤ n)
 
 -- the bits that it writes: those of the sum, zero as positive zero
 unfoldable pub nudgeBits : ℕ → ℤ → ℕ

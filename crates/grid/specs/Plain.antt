@@ -5,7 +5,7 @@ use mathlib.Core.Bool.{Bool}
 use lib.IntN.{ℤ, natAbs, _+ℤ_}
 use lib.Ieee.{Float, binary32, ofBits}
 use lib.Ieee.Exact.{HasValue}
-use Rattle.grid.specs.Grid.{scaled}
+use Rattle.grid.specs.Grid.{scaled, largestStep}
 
 -- on the grid: 64 times x is a whole number within ±65,536, so x is ±number/64. Zero has either sign
 pub record OnGrid (x : Float) : Type 0 where
@@ -14,8 +14,12 @@ pub record OnGrid (x : Float) : Type 0 where
   pub small : number ≤ 65536
   pub value : HasValue x sign number 64
 
--- a nudge that 24 does not refuse: a step of at most 640 either way, the old value on the grid, the new one not beyond it
+-- a permitted step: from -640 to 640
+abbrev pub PermittedStep : ℤ → Type 0
+PermittedStep n = natAbs n ≤ largestStep
+
+-- a nudge that 24 does not refuse: a permitted step, the old value on the grid, the new one not beyond it
 pub record MayNudge (b : ℕ) (n : ℤ) : Type 0 where
-  pub step : natAbs n ≤ 640
+  pub step : PermittedStep n
   pub on : OnGrid (ofBits binary32 b)
   pub to : natAbs (scaled (ofBits binary32 b) +ℤ n) ≤ 65536

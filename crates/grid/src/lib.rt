@@ -79,11 +79,14 @@ pub fn float_of(z: i64) -> f32
     z as f32 / 64.0
 }
 
+// The largest step of a nudge, either way.
+const LARGEST_STEP: u32 = 640;
+
 // Whether the nudge of the float with the bits b by n sixty-fourths may be made.
 fn may_nudge(b: u32, n: i64) -> bool
     ensures { λ r. ⌜ r ≡ mayNudge b n ⌝ }
 {
-    if !is_within(n, 640) {
+    if !is_within(n, LARGEST_STEP) {
         return false;
     }
     let z = scaled_of(b);

@@ -21,10 +21,10 @@ use Rattle.record.specs.declared.Rec.{Rec}
 use Rattle.record.specs.Record.{size, flip, nothing, recordBytes, recordAt}
 use Rattle.laying.specs.Kind.{Kind, lay}
 use Rattle.record.proofs.Records.{recordAt-put, recordAt-below}
-use Rattle.journal.specs.Wish.{Wish, paintWish, linkWish, nudgeWish}
+use Rattle.journal.specs.Wish.{Wish, wishOf}
 use Rattle.journal.specs.Lawful.{Lawful, Granted, Fits}
-use Rattle.journal.specs.Step.{State, Outcome, next, lent, refusal, unless, recordOf, edited, commonVerdict, rule21, editRules, editVerdict, editStep, undoVerdict, undoStep, redoVerdict, redoStep, unwind, putBackStep}
-use Rattle.journal.specs.Calls.{Call, paint, link, nudge, undo, redo, putBack, step, run}
+use Rattle.journal.specs.Step.{State, Outcome, next, lent, mostRecords, refusal, unless, recordOf, edited, commonVerdict, rule21, editRules, editVerdict, editStep, undoVerdict, undoStep, redoVerdict, redoStep, unwind, putBackStep}
+use Rattle.journal.specs.Calls.{Call, edit, undo, redo, putBack, step, run}
 use Rattle.journal.specs.Replay.{layAll, Chain}
 use Rattle.journal.specs.Plain.{Plain, plain, empty, floorOf, plainEdit, plainVerdict, plainNext, plainStep, plainRun}
 use Rattle.journal.specs.Demand.{verdictOf}
@@ -35,7 +35,7 @@ use Rattle.journal.proofs.Steps.{unless-next, unless-stop, met-common, 
 -- the journal holds the list, and the list could have come about
 pub record Kept (K : Kind) (opening journal : List ℕ) (room : ℕ) (recs : List Rec) (at : ℕ) : Type 0 where
   pub cursor : at ≤ length recs
-  pub few : length recs ≤ 4096
+  pub few : length recs ≤ mostRecords
   pub long : length journal ≡ room
   pub fitting : size * length recs ≤ room
   pub stored : (i : ℕ) → i < length recs → recordAt journal (size * i) ≡ getD recs i nothing
@@ -98,7 +98,7 @@ module _ (K : Kind) (opening : List ℕ) (room : ℕ) (A : List ℕ → Type 0) 
     moved to h = record { cursor = h; few = k .few; long = k .long; fitting = k .fitting; stored = k .stored; chain = k .chain }
 
     -- a record that fits, added at the cursor
-    append-follows : (r : Rec) → Fits K (layAll (lay K) opening (take at recs)) r → (at ≡ 4096 → ⊥) → size * (at + 1) ≤ room
+    append-follows : (r : Rec) → Fits K (layAll (lay K) opening (take at recs)) r → (at ≡ mostRecords → ⊥) → size * (at + 1) ≤ room
         → Follows K opening room (edited K r (stateOf K opening j (plain recs at))) accepted (plain (take at recs ++ (r ∷ [])) (at + 1))
     append-follows r fit free space =
         let q = take at recs in
@@ -214,9 +214,7 @@ module _ (K : Kind) (opening : List ℕ) (room : ℕ) (A : List ℕ → Type 0) 
   pub step-follows : (j : List ℕ) (c : Call) (p : Plain) → Kept K opening j room (p .recs) (p .at)
       → Follows K opening room (step K c (stateOf K opening j p)) (plainVerdict K opening room c p) (plainStep K opening room c p)
   unfolding step plainVerdict plainStep plainNext
-  step-follows j (paint face material) p k = edit-follows j (p .recs) (p .at) k (paintWish face material) (λ fl. L .paints fl face material)
-  step-follows j (link entry t) p k = edit-follows j (p .recs) (p .at) k (linkWish entry t) (λ fl. L .links fl entry t)
-  step-follows j (nudge place n) p k = edit-follows j (p .recs) (p .at) k (nudgeWish place n) (λ fl. L .nudges fl place n)
+  step-follows j (edit e) p k = edit-follows j (p .recs) (p .at) k (wishOf e) (λ fl. L .edits fl e)
   step-follows j undo p k = undo-follows j (p .recs) (p .at) k
   step-follows j redo p k = redo-follows j (p .recs) (p .at) k
   step-follows j putBack p k = putBack-follows j (p .recs) (p .at) k

@@ -20,8 +20,8 @@ use Rattle.laying.specs.Allowed.{permitted, linkable}
 use Rattle.laying.specs.Kind.{lay}
 use Rattle.laying.specs.Area.{areaCount, areaField, areaAllowed, areaFloor}
 use Rattle.laying.proofs.Allowed.{permitted-small, permitted-sym, link-word, linkable-small}
-use Rattle.laying.proofs.Area.{by-tag, paint-place, link-place, nudge-place, paint-in, link-in, field-inside, tag-small, place-small, lay-counts, lay-places}
-use Rattle.journal.specs.Wish.{paintWish, linkWish, nudgeWish}
+use Rattle.laying.proofs.Area.{by-tag, paint-place, link-place, nudge-place, paint-in, link-in, area-fields}
+use Rattle.journal.specs.Wish.{Edit, paint, link, nudge, wishOf, paintWish, linkWish, nudgeWish}
 use Rattle.journal.specs.Lawful.{Fits, Granted, Lawful}
 
 -- ---- the four bytes as words of the floor's parts
@@ -84,16 +84,9 @@ pub area-lawful : (A : List ℕ → Type 0)
     → ((fl : List ℕ) (r : Rec) → A fl → Fits areaFloor fl r → A (lay areaFloor fl r))
     → Lawful areaFloor A
 unfolding areaCount
-area-lawful A bytes right linked keeps = record {
-  bytes = bytes;
-  right = right;
-  tags = λ fl tag place a i. tag-small fl (right fl a) tag place i;
-  places = λ fl tag place a i. place-small fl (right fl a) tag place i;
-  within = λ fl tag place a i. field-inside fl (right fl a) tag place i;
-  keeps = keeps;
-  counts = λ fl r a o. lay-counts fl r (right fl a) (o .inside);
-  fields = λ fl r a o. lay-places fl r (right fl a) (o .inside);
-  paints = λ fl face material a. area-paints fl face material;
-  links = λ fl entry t a i. area-links fl entry t (rw (transition-at fl entry i) at (linked fl entry a i)) i;
-  nudges = λ fl place n a. area-nudges fl place n;
-}
+area-lawful A bytes right linked keeps = record { fields = area-fields; bytes = bytes; right = right; keeps = keeps; edits = edits }
+  where
+    edits : (fl : List ℕ) (e : Edit) → A fl → Granted areaFloor fl (wishOf e)
+    edits fl (paint face material) a = area-paints fl face material
+    edits fl (link entry t) a = λ i. area-links fl entry t (rw (transition-at fl entry i) at (linked fl entry a i)) i
+    edits fl (nudge place n) a = area-nudges fl place n

@@ -1,6 +1,8 @@
 pub mod Laying
 pub mod Replays
 pub mod Steps
+pub mod AcceptedEdits
+pub mod Order
 pub mod Follows
 pub mod Demand
 pub mod Lawful

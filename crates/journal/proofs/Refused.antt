@@ -13,7 +13,7 @@ use Rattle.record.specs.Record.{size, flip, recordAt}
 use Rattle.laying.specs.Kind.{Kind, lay, fits}
 use Rattle.journal.specs.declared.Session.{Session}
 use Rattle.journal.specs.Step.{State, Outcome, left, next, unless, unwind, unwound, commonVerdict, editStep, undoStep, redoStep, putBackStep}
-use Rattle.journal.specs.Calls.{Call, paint, link, nudge, undo, redo, putBack, step}
+use Rattle.journal.specs.Calls.{Call, edit, undo, redo, putBack, step}
 use Rattle.journal.specs.Stopped.{Undone, none, more, Stopped}
 use Rattle.journal.proofs.Steps.{unless-next, unless-stop}
 
@@ -87,9 +87,7 @@ put-back-refused K s z =
 
 pub refused-keeps : (K : Kind) (c : Call) (s : State) → (step K c s .answer .number ≡ 0 → ⊥) → (next (step K c s) ≡ s) ⊎ ((c ≡ putBack) × Stopped K s (step K c s))
 unfolding step editStep undoStep redoStep
-refused-keeps K (paint face material) s z = inl (unless-keeps _ s _ refl z)
-refused-keeps K (link entry t) s z = inl (unless-keeps _ s _ refl z)
-refused-keeps K (nudge place n) s z = inl (unless-keeps _ s _ refl z)
+refused-keeps K (edit e) s z = inl (unless-keeps _ s _ refl z)
 refused-keeps K undo s z = inl (unless-keeps _ s _ refl z)
 refused-keeps K redo s z = inl (unless-keeps _ s _ refl z)
 refused-keeps K putBack s z = by (put-back-refused K s z)

@@ -11,14 +11,14 @@ use borrow.Author.Tests.{ltb-true, ltb-false, eqb-false, lt-ltb, le-ltb, lt-leb,
 use Rattle.verdict.specs.Verdict.{accepted, rule, _then_}
 use Rattle.verdict.specs.declared.Answer.{Answer}
 use Rattle.verdict.proofs.Bools.{or-false, decided}
-use Rattle.verdict.proofs.Verdict.{then-next, then-stop, then-assoc, passed, unbroken, met}
+use Rattle.verdict.proofs.Verdict.{then-next, then-stop, then-both, then-assoc, passed, unbroken, met}
 use Rattle.record.specs.declared.Rec.{Rec}
 use Rattle.record.specs.Record.{size}
 use Rattle.laying.specs.Kind.{Kind, lay, fits}
 use Rattle.journal.specs.declared.Session.{Session}
 use Rattle.journal.specs.Wish.{Wish, asked}
 use Rattle.journal.specs.Lawful.{oldWord}
-use Rattle.journal.specs.Step.{State, Outcome, session, left, badSession, rule28, commonVerdict, refusal, unless, full, rule21, editRules, openVerdict, editVerdict, recordOf, edited, editStep, turned, unwindsTo, unwind, putBackStep}
+use Rattle.journal.specs.Step.{State, Outcome, session, left, mostRecords, badSession, rule28, commonVerdict, refusal, unless, full, rule21, editRules, openVerdict, editVerdict, recordOf, edited, editStep, turned, unwindsTo, unwind, putBackStep}
 
 -- ---- the outcome
 
@@ -34,19 +34,19 @@ unless-stop a s o z = rw (ne-eqb (a .number) 0 z)
 
 pub record GoodSession (room f k : ℕ) : Type 0 where
   pub cursor : k ≤ f
-  pub few : f ≤ 4096
+  pub few : f ≤ mostRecords
   pub held : size * f ≤ room
 
 pub session-good : (room f k : ℕ) → badSession room f k ≡ false → GoodSession room f k
 unfolding badSession
 session-good room f k e =
-    let p = or-false (ltb f k || ltb 4096 f) (ltb room (size * f)) e in
-    let q = or-false (ltb f k) (ltb 4096 f) (p .0) in
+    let p = or-false (ltb f k || ltb mostRecords f) (ltb room (size * f)) e in
+    let q = or-false (ltb f k) (ltb mostRecords f) (p .0) in
     record { cursor = ltb-false _ _ (q .0); few = ltb-false _ _ (q .1); held = ltb-false _ _ (p .1) }
 
 pub good-session : (room f k : ℕ) → GoodSession room f k → badSession room f k ≡ false
 unfolding badSession
-good-session room f k g = rw (le-ltb f k (g .cursor), le-ltb 4096 f (g .few), le-ltb room (size * f) (g .held))
+good-session room f k g = rw (le-ltb f k (g .cursor), le-ltb mostRecords f (g .few), le-ltb room (size * f) (g .held))
 
 module _ (K : Kind) (s : State) (place : ℕ) where
   pub record CommonMet : Type 0 where
@@ -73,14 +73,18 @@ pub leb-not : (n i : ℕ) → leb n i ≡ not (ltb i n)
 leb-not n i = decided (decLt i n) (λ l. rw (lt-leb n i l, lt-ltb i n l)) (λ l. rw (le-leb n i (omega arith), le-ltb i n (omega arith)))
 
 -- 25
-pub full-free : (room k : ℕ) → full room k ≡ false → ((k ≡ 4096 → ⊥) × (size * (k + 1) ≤ room))
+pub full-free : (room k : ℕ) → full room k ≡ false → ((k ≡ mostRecords → ⊥) × (size * (k + 1) ≤ room))
 unfolding full
-full-free room k e = let p = or-false (eqb k 4096) (ltb room (size * (k + 1))) e in (eqb-false _ _ (p .0), ltb-false _ _ (p .1))
+full-free room k e = let p = or-false (eqb k mostRecords) (ltb room (size * (k + 1))) e in (eqb-false _ _ (p .0), ltb-false _ _ (p .1))
+
+pub free-full : (room k : ℕ) → (k ≡ mostRecords → ⊥) → size * (k + 1) ≤ room → full room k ≡ false
+unfolding full
+free-full room k z l = rw (ne-eqb k mostRecords z, le-ltb room (size * (k + 1)) l)
 
 pub record EditMet (K : Kind) (w : Wish) (fl : List ℕ) (room k : ℕ) : Type 0 where
   pub inside : w .place < K .count fl (w .tag)
   pub may : w .may (oldWord K fl w) ≡ true
-  pub free : (k ≡ 4096 → ⊥)
+  pub free : (k ≡ mostRecords → ⊥)
   pub space : size * (k + 1) ≤ room
 
 pub place-inside : (K : Kind) (tag place : ℕ) (fl : List ℕ) → rule21 K tag place fl .number ≡ 0 → place < K .count fl tag
@@ -100,6 +104,13 @@ edit-met K w fl room k z =
       free = free .0;
       space = free .1;
     }
+
+-- and the other way round
+pub met-edit : (K : Kind) (w : Wish) (fl : List ℕ) (room k : ℕ) → EditMet K w fl room k → editRules K w fl room k ≡ accepted
+unfolding editRules rule21
+met-edit K w fl room k m =
+    rw (lt-ltb (w .place) (K .count fl (w .tag)) (m .inside), m .may, free-full room k (m .free) (m .space))
+    (then-both (then-both (met 21 (w .place)) (met (21 + w .tag) (w .place))) (met 25 (w .place)))
 
 -- the verdict is document 01's chain
 pub edit-chain : (K : Kind) (w : Wish) (s : State) → editVerdict K w s

@@ -3,6 +3,7 @@ pub mod Lawful
 pub mod Step
 pub mod Calls
 pub mod Replay
+pub mod Order
 pub mod Plain
 pub mod Demand
 pub mod Stopped

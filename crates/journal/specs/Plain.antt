@@ -8,9 +8,9 @@ use Rattle.verdict.specs.Verdict.{accepted, rule}
 use Rattle.verdict.specs.declared.Answer.{Answer}
 use Rattle.record.specs.declared.Rec.{Rec}
 use Rattle.laying.specs.Kind.{Kind, lay}
-use Rattle.journal.specs.Wish.{Wish, paintWish, linkWish, nudgeWish}
+use Rattle.journal.specs.Wish.{Wish, wishOf}
 use Rattle.journal.specs.Step.{recordOf, editRules}
-use Rattle.journal.specs.Calls.{Call, paint, link, nudge, undo, redo, putBack}
+use Rattle.journal.specs.Calls.{Call, edit, undo, redo, putBack}
 use Rattle.journal.specs.Replay.{layAll}
 
 pub record Plain : Type 0 where
@@ -34,18 +34,14 @@ plainEdit K opening w p = plain (take (p .at) (p .recs) ++ (recordOf K (floorOf 
 -- where 01 says that a call is refused, with the place: 21 to 25 for an edit, 26 for undo and redo, and nowhere else. `room` is the
 -- journal's length
 unfoldable pub plainVerdict : Kind → List ℕ → ℕ → Call → Plain → Answer
-plainVerdict K opening room (paint face material) p = editRules K (paintWish face material) (floorOf K opening p) room (p .at)
-plainVerdict K opening room (link entry t) p = editRules K (linkWish entry t) (floorOf K opening p) room (p .at)
-plainVerdict K opening room (nudge place n) p = editRules K (nudgeWish place n) (floorOf K opening p) room (p .at)
+plainVerdict K opening room (edit e) p = editRules K (wishOf e) (floorOf K opening p) room (p .at)
 plainVerdict K opening room undo p = rule 26 (eqb (p .at) 0) (p .at)
 plainVerdict K opening room redo p = rule 26 (eqb (p .at) (length (p .recs))) (p .at)
 plainVerdict K opening room putBack p = accepted
 
 -- what a call that is not refused does to the list
 unfoldable pub plainNext : Kind → List ℕ → Call → Plain → Plain
-plainNext K opening (paint face material) p = plainEdit K opening (paintWish face material) p
-plainNext K opening (link entry t) p = plainEdit K opening (linkWish entry t) p
-plainNext K opening (nudge place n) p = plainEdit K opening (nudgeWish place n) p
+plainNext K opening (edit e) p = plainEdit K opening (wishOf e) p
 plainNext K opening undo p = plain (p .recs) (p .at - 1)
 plainNext K opening redo p = plain (p .recs) (p .at + 1)
 plainNext K opening putBack p = empty

@@ -42,9 +42,13 @@ next o = lent (o .floor) (o .journal) (o .answer .f) (o .answer .k)
 
 -- ---- every call
 
+-- no session keeps more records
+abbrev pub mostRecords : ℕ
+mostRecords = 4096
+
 -- 28 if k > f, f > 4,096 or 15 * f exceeds the journal
 unfoldable pub badSession : ℕ → ℕ → ℕ → Bool
-badSession room f k = ltb f k || ltb 4096 f || ltb room (size * f)
+badSession room f k = ltb f k || ltb mostRecords f || ltb room (size * f)
 
 unfoldable pub rule28 : ℕ → ℕ → ℕ → ℕ → Answer
 rule28 room f k place = rule 28 (badSession room f k) place
@@ -69,7 +73,7 @@ recordOf K fl w = made (w .tag) (w .place) (oldWord K fl w) (w .new (oldWord K f
 
 -- 25 exactly if k = 4,096 or 15 * (k + 1) exceeds the journal
 unfoldable pub full : ℕ → ℕ → Bool
-full room k = eqb k 4096 || ltb room (size * (k + 1))
+full room k = eqb k mostRecords || ltb room (size * (k + 1))
 
 -- 21: the place is outside its table
 unfoldable pub rule21 : Kind → ℕ → ℕ → List ℕ → Answer

@@ -25,6 +25,9 @@ pub struct Session {
     pub k: u32,
 }
 
+// No session keeps more records.
+const MOST_RECORDS: u32 = 4096;
+
 // 28
 fn is_bad(room: usize, f: u32, k: u32) -> bool
     ensures { λ r. ⌜ r ≡ badSession room f k ⌝ }
@@ -32,7 +35,7 @@ fn is_bad(room: usize, f: u32, k: u32) -> bool
     if f < k {
         return true;
     }
-    if 4096 < f {
+    if MOST_RECORDS < f {
         return true;
     }
     room < SIZE * (f as usize)
@@ -42,7 +45,7 @@ fn is_bad(room: usize, f: u32, k: u32) -> bool
 fn is_full(room: usize, k: u32) -> bool
     ensures { λ r. ⌜ r ≡ full room k ⌝ }
 {
-    if k == 4096 {
+    if k == MOST_RECORDS {
         return true;
     }
     room < SIZE * (k as usize + 1)

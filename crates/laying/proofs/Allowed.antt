@@ -1,4 +1,4 @@
--- The laws of 22 and 23: 22 is symmetric, and each lets through a 32-bit word only; and a step's two widths. Assumes nothing.
+-- The laws of 22 and 23: 22 is symmetric and transitive, and each lets through a 32-bit word only; and a step's two widths. Assumes nothing.
 use mathlib.Core.Path.{_≡_, refl, sym, ap, _∙_}
 use mathlib.Core.Bool.{Bool, true, false, not, cond, _&&_}
 use Prim.Native.Nat.{ℕ, suc, _-_, _≤_, _<_}
@@ -42,6 +42,11 @@ same-permitted old new a b e = rw (le-leb old 22 a, le-leb new 22 b, e) (by (wal
 pub permitted-sym : (old new : ℕ) → permitted old new ≡ true → permitted new old ≡ true
 permitted-sym old new e = let s = permitted-small old new e in same-permitted new old (s .1) (s .0) (sym (permitted-same old new e))
 
+-- and transitive
+pub permitted-through : (old mid new : ℕ) → permitted old mid ≡ true → permitted mid new ≡ true → permitted old new ≡ true
+permitted-through old mid new p q =
+    same-permitted old new (permitted-small old mid p .0) (permitted-small mid new q .1) (permitted-same old mid p ∙ permitted-same mid new q)
+
 -- test by test
 pub permitted-old : (old new : ℕ) → 22 < old → permitted old new ≡ false
 unfolding permitted
@@ -64,6 +69,14 @@ link-word (negsuc n) e = rw (eqb-true n 0 e)
 pub linkable-small : (w : ℕ) → linkable w ≡ true → w < 4294967296
 unfolding linkable
 linkable-small w e = test (leb w 63) (λ h. omega (arith, leb-true w 63 h)) (λ h. omega (arith, eqb-true w 4294967295 (rw h at e)))
+
+-- different transitions have different bits
+pub transition-only : (t u : ℤ) → mayLink t ≡ true → mayLink u ≡ true → transitionWord t ≡ transitionWord u → t ≡ u
+unfolding mayLink transitionWord
+transition-only (pos n) (pos m) p q e = ap pos e
+transition-only (pos n) (negsuc m) p q e = absurd (omega (arith, leb-true n 63 p, eqb-true m 0 q))
+transition-only (negsuc n) (pos m) p q e = absurd (omega (arith, eqb-true n 0 p, leb-true m 63 q))
+transition-only (negsuc n) (negsuc m) p q e = ap negsuc (eqb-true n 0 p ∙ sym (eqb-true m 0 q))
 
 -- as the code tests it
 pub link-low : (t : ℤ) → ltZ t (negsuc 0) ≡ true → mayLink t ≡ false

@@ -1,10 +1,10 @@
--- Where the words of an area floor lie, and what a record laid on leaves as it was. Assumes nothing.
-use mathlib.Core.Path.{_≡_}
+-- Where the words of an area floor lie, and what a record laid on leaves as it was: its fields are lawful. Assumes nothing.
+use mathlib.Core.Path.{_≡_, sym, _∙_}
 use mathlib.Core.Logic.{_⊎_, inl, inr, ⊎-elim}
 use Prim.Native.Nat.{ℕ, _+_, _*_, _≤_, _<_}
 use mathlib.Core.List.{List}
 use native.Mathlib.Omega.{arith}
-use native.Mathlib.Decide.{ℕ-discrete}
+use native.Mathlib.Decide.{decLt, ℕ-discrete}
 use lib.ListN.{length}
 use borrow.Author.Tests.{eq-eqb, ne-eqb}
 use Rattle.verdict.proofs.Bools.{decided}
@@ -12,9 +12,11 @@ use Rattle.wire.specs.Bytes.{putU32}
 use Rattle.tables.specs.Header.{headerVerdict, RightHeader}
 use Rattle.tables.specs.Parts.{partsOf, wordIndex, wordPlace, wordsIn}
 use Rattle.tables.proofs.Right.{header-met, SameFields, field-same, verdict-same}
+use Rattle.tables.proofs.Reading.{words-apart}
 use Rattle.tables.proofs.Writing.{past-fields, among-floats, place-inside}
 use Rattle.record.specs.declared.Rec.{Rec}
 use Rattle.laying.specs.Kind.{lay}
+use Rattle.laying.specs.Fields.{Field, ShareNoByte, LawfulFields}
 use Rattle.laying.specs.Area.{areaCount, areaField, areaFloor}
 
 -- a tag that has places is 1, 2 or 3
@@ -118,3 +120,47 @@ module _ (fl : List ℕ) (r : Rec) (right : RightHeader fl) (inside : r .place <
 
   pub lay-places : (tag place : ℕ) → areaField (lay areaFloor fl r) tag place ≡ areaField fl tag place
   lay-places = place-same (lay areaFloor fl r) fl lay-fields
+
+-- ---- TWO FIELDS share no byte
+
+module _ (fl : List ℕ) (right : RightHeader fl) where
+  -- two words of one table
+  one-table : (k x y : ℕ) → (x ≡ y → ⊥) → ShareNoByte (wordPlace fl k x) (wordPlace fl k y)
+  unfolding wordPlace
+  one-table k x y n = decided (decLt x y) (λ l. inl (omega arith)) (λ l. inr (omega arith))
+
+  -- a word of a table lies past the header's floats
+  past-floats : (k x y : ℕ) → k < 9 → x < wordsIn fl k → y < 12 → 12 + 4 * y + 4 ≤ wordPlace fl k x
+  past-floats k x y lk lx ly = omega (arith, place-inside fl right k lk x lx 0 (omega arith))
+
+  fields-apart : (t p u q : ℕ) → p < areaCount fl t → q < areaCount fl u → (t ≡ u → p ≡ q → ⊥) → ShareNoByte (areaField fl t p) (areaField fl u q)
+  unfolding areaField
+  fields-apart t p u q ip iq n =
+      by-tag fl t p ip
+      (λ e i. by-tag fl u q iq
+      (λ f j. rw (e, f) (one-table 2 p q (λ z. n (e ∙ sym f) z)))
+      (λ f j. rw (e, f) (words-apart fl right 2 7 (omega arith) (omega arith) (λ z. omega arith) p (2 * q + 1) (paint-in fl p i) (link-in fl q j)))
+      (λ f j. rw (e, f) (inr (past-floats 2 p q (omega arith) (paint-in fl p i) j))))
+      (λ e i. by-tag fl u q iq
+      (λ f j. rw (e, f) (words-apart fl right 7 2 (omega arith) (omega arith) (λ z. omega arith) (2 * p + 1) q (link-in fl p i) (paint-in fl q j)))
+      (λ f j. rw (e, f) (one-table 7 (2 * p + 1) (2 * q + 1) (λ z. n (e ∙ sym f) (omega arith))))
+      (λ f j. rw (e, f) (inr (past-floats 7 (2 * p + 1) q (omega arith) (link-in fl p i) j))))
+      (λ e i. by-tag fl u q iq
+      (λ f j. rw (e, f) (inl (past-floats 2 q p (omega arith) (paint-in fl q j) i)))
+      (λ f j. rw (e, f) (inl (past-floats 7 (2 * q + 1) p (omega arith) (link-in fl q j) i)))
+      (λ f j. rw (e, f) (decided (decLt p q) (λ l. inl (omega arith)) (λ l. let d : p ≡ q → ⊥ = n (e ∙ sym f) in inr (omega arith)))))
+
+-- ---- THE KIND'S FIELDS are lawful
+pub area-fields : LawfulFields areaFloor
+area-fields = record {
+  tags = λ fl x right i. tag-small fl right (x .tag) (x .place) i;
+  places = λ fl x right i. place-small fl right (x .tag) (x .place) i;
+  within = λ fl x right i. field-inside fl right (x .tag) (x .place) i;
+  apart = λ fl x y right i j n. fields-apart fl right (x .tag) (x .place) (y .tag) (y .place) i j (λ e f. n (same-field x y e f));
+  right = lay-right;
+  counts = lay-counts;
+  fields = λ fl r right i x. lay-places fl r right i (x .tag) (x .place);
+}
+  where
+    same-field : (x y : Field) → x .tag ≡ y .tag → x .place ≡ y .place → x ≡ y
+    same-field x y e f = rw (e, f)

@@ -1,3 +1,4 @@
 pub mod Laying
 pub mod Allowed
 pub mod Area
+pub mod Fields

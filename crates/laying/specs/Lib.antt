@@ -1,3 +1,4 @@
 pub mod Allowed
 pub mod Kind
+pub mod Fields
 pub mod Area

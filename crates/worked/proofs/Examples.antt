@@ -1,12 +1,12 @@
 -- The checked examples hold: one test that is computed over the table, and one law that turns it into the equation of each case.
 -- Assumes nothing.
-use mathlib.Core.Path.{_≡_, refl, _∙_}
+use mathlib.Core.Path.{_≡_, refl, sym, ap, _∙_}
 use mathlib.Core.Bool.{Bool, true, false, _&&_}
-use mathlib.Core.List.{List, [], _∷_, _++_}
+use mathlib.Core.List.{List, [], _∷_, _++_, append-nil}
 use Prim.Native.Nat.{ℕ, _+_, _<_}
 use native.Mathlib.Omega.{arith}
 use lib.Dec.{T, ltb, eqb}
-use lib.ListN.{length, replicate, length-append, length-replicate}
+use lib.ListN.{length, getD, replicate, length-append, length-replicate}
 use lib.Ieee.{ofBits, toBits, round, le, lt, eq}
 use borrow.Author.Tests.{le-ltb, lt-ltb, ltb-true, eqb-true}
 use Rattle.verdict.specs.Lowest.{lowest, anyUnder, allUnder}
@@ -133,3 +133,8 @@ computed = tt
 
 pub examples : Right worked
 examples = right-of worked computed
+
+-- W4: the triangle is accepted
+pub triangle-read : readerVerdict triangle workSize .number ≡ 0
+unfolding worked gives readerAnswer answerOf
+triangle-read = ap (λ (b : List ℕ). readerVerdict b workSize .number) (sym (append-nil triangle)) ∙ ap (λ (told : List ℕ). getD told 0 0) (examples .1 .1 .1 .0)

@@ -18,18 +18,19 @@ use Rattle.floor.specs.declared.Floor.{Floor}
 use Rattle.query.specs.Points.{pointAnswer}
 use Rattle.laying.specs.Area.{areaFloor}
 use Rattle.journal.specs.Step.{Outcome, lent}
-use Rattle.journal.specs.Calls.{Call, paint, step, run}
+use Rattle.journal.specs.Wish.{Edit, paint}
+use Rattle.journal.specs.Calls.{edit, step, run}
 use Rattle.query.specs.declared.Point.{Point}
 
 -- what is done: a file of some bytes and then so many zeros is read; a floor is rewritten into so many zeros; half-edges of a file are paired; a floor is asked for the
--- face under a point, x and y in sixty-fourths; over a floor and an empty journal of so many bytes calls are made and then one more; a
+-- face under a point, x and y in sixty-fourths; over a floor and an empty journal of so many bytes edits are made and then one more; a
 -- float is nudged
 pub data Deed : Type 0 where
   read : List ℕ → ℕ → Deed
   rewrite : List ℕ → ℕ → Deed
   pair : List ℕ → List ℕ → Deed
   ask : List ℕ → ℤ → ℤ → Deed
-  call : List ℕ → ℕ → List Call → Call → Deed
+  call : List ℕ → ℕ → List Edit → Edit → Deed
   nudge : ℕ → ℤ → Deed
 
 -- the reader's answer: number, place, faces, walkable, edges, perimeters
@@ -55,7 +56,7 @@ gives (read start zeros) = told (readerAnswer (start ++ replicate zeros 0) workS
 gives (rewrite file room) = formed (rewriteAnswer file workSize room) ++ rewriteMemory file workSize (replicate room 0)
 gives (pair file hs) = map (pairing (partsOf file)) hs
 gives (ask file x y) = pointed (pointAnswer file workSize x y)
-gives (call file room cs c) = called (step areaFloor c (run areaFloor cs (lent file (replicate room 0) 0 0)))
+gives (call file room es e) = called (step areaFloor (edit e) (run areaFloor (map edit es) (lent file (replicate room 0) 0 0)))
 gives (nudge b n) = bit (mayNudge b n) ∷ nudgeBits b n ∷ []
 
 pub record Case : Type 0 where

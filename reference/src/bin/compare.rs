@@ -3,7 +3,7 @@
 //! --trace names each case on standard error before it runs, in case a call never returns.
 
 use reference::calls::{OTHER, REFERENCE};
-use reference::compare::{compare, differences, run, Done, Side};
+use reference::compare::{compare, run, wrong, Done, Side};
 use reference::fault::{self, Fault, FAULTS};
 use reference::generate::cases::{case, Case};
 use std::process::ExitCode;
@@ -91,7 +91,7 @@ fn run_all(asked: &Asked, sides: [&Side; 2]) -> bool {
     tally.different > 0
 }
 
-/// Runs one case and shows what was handed in and what both sides did; true if they differ.
+/// Runs one case and shows what was handed in and what both sides did; true if anything is wrong.
 fn show(asked: &Asked, sides: [&Side; 2]) -> bool {
     let case = case(asked.seed, asked.number);
     handed_in(&case);
@@ -100,7 +100,7 @@ fn show(asked: &Asked, sides: [&Side; 2]) -> bool {
         println!("{:<15}{} {}", left.call, sides[0].calls.name, fields(left));
         println!("{:<15}{} {}", "", sides[1].calls.name, fields(right));
     }
-    let found = differences(&one, &other);
+    let found = wrong(&case, sides, [&one, &other]);
     println!("\n{} differences", found.len());
     for difference in &found {
         println!("  {difference}");
@@ -123,6 +123,15 @@ fn handed_in(case: &Case) {
             bytes("journal", &play.journal);
             println!("f {}, k {}", play.f, play.k);
             play.moves.iter().for_each(|next| println!("{next:?}"));
+        }
+        Case::Pair(pair) => {
+            bytes("floor", &pair.floor);
+            bytes("journal", &pair.journal);
+            println!("f {}, k {}", pair.f, pair.k);
+            println!("both orders of {:?}", pair.edits);
+            if let Some(sum) = pair.by_the_sum() {
+                println!("and by the sum {sum:?}");
+            }
         }
     }
     println!();

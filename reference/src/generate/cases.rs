@@ -1,5 +1,6 @@
-//! One case of a comparison: a call with all that is lent to it, or a session of calls.
+//! One case of a comparison: a call with all that is lent to it, a session of calls, or a pair of edits.
 
+use super::edit_pairs::{self, Pair};
 use super::random::Random;
 use super::sessions::{self, Play};
 use super::texts::{self, Word};
@@ -44,11 +45,12 @@ impl Call {
 /// A lent slice and what it is called.
 pub type Lent = (&'static str, Vec<u8>);
 
-/// One call with all its slices, in the order of the exported call, or a session.
+/// One call with all its slices, in the order of the exported call, a session, or a pair of edits.
 #[derive(Clone, Debug)]
 pub enum Case {
     One { call: Call, lent: Vec<Lent> },
     Session(Play),
+    Pair(Pair),
 }
 
 fn one<const N: usize>(call: Call, lent: [Lent; N]) -> Case {
@@ -62,7 +64,7 @@ fn one<const N: usize>(call: Call, lent: [Lent; N]) -> Case {
 pub fn case(seed: u64, number: u64) -> Case {
     let mut random = Random::of_case(seed, number);
     let random = &mut random;
-    match random.under(40) {
+    match random.under(43) {
         0..=11 => read(random),
         12 | 13 => rewrite(random),
         14..=18 => query(random),
@@ -73,7 +75,8 @@ pub fn case(seed: u64, number: u64) -> Case {
         33 | 34 => sight_rename(random),
         35 | 36 => sight_row(random),
         37 | 38 => link_check(random),
-        _ => caption(random),
+        39 => caption(random),
+        _ => Case::Pair(edit_pairs::pair(random)),
     }
 }
 

@@ -1,7 +1,8 @@
-//! Seeded cases: valid floors and texts, damaged ones aimed at every refusal, sessions and queries.
+//! Seeded cases: valid floors and texts, damaged ones aimed at every refusal, sessions, pairs of edits and queries.
 
 pub mod cases;
 pub mod damage;
+pub mod edit_pairs;
 pub mod finish;
 pub mod floors;
 pub mod model;

@@ -8,7 +8,7 @@ use super::model::Model;
 use super::random::Random;
 use crate::floor::tables::FIELDS;
 use crate::grid;
-use crate::journal::{Record, LINK, NUDGE, PAINT, RECORD};
+use crate::journal::{Record, LARGEST_STEP, LINK, NUDGE, PAINT, RECORD};
 use crate::words::{put_word, word_at};
 
 /// One move of a session.
@@ -36,16 +36,27 @@ const UNDO: Move = Move::Call(Call::Undo { f: 0, k: 0 });
 const REDO: Move = Move::Call(Call::Redo { f: 0, k: 0 });
 const PUT_BACK: Move = Move::Call(Call::PutBack { f: 0, k: 0 });
 
-/// An edit as a move.
-fn edit(tag: u8, place: u32, to: u32) -> Move {
-    let (f, k) = (0, 0);
-    Move::Call(Call::Edit {
-        tag,
-        f,
-        k,
-        place,
-        to,
-    })
+/// An edit: its field, which is a tag and a place, and what to write there as 32 bits.
+#[derive(Clone, Copy, Debug, PartialEq, Eq)]
+pub struct Edit {
+    pub tag: u8,
+    pub place: u32,
+    pub to: u32,
+}
+
+impl Edit {
+    /// The edit as a move; its f and k are those of the session.
+    pub fn as_move(self) -> Move {
+        let Edit { tag, place, to } = self;
+        let (f, k) = (0, 0);
+        Move::Call(Call::Edit {
+            tag,
+            f,
+            k,
+            place,
+            to,
+        })
+    }
 }
 
 /// A floor, a journal, what is handed in first, and the moves.
@@ -69,7 +80,7 @@ pub fn play(random: &mut Random) -> Play {
 }
 
 /// A small floor with faces and edges. Editing asks only for rules 1 to 6, so later rules may be broken.
-fn small_floor(random: &mut Random) -> Vec<u8> {
+pub(super) fn small_floor(random: &mut Random) -> Vec<u8> {
     if random.once_in(8) {
         return damage::bad(random);
     }
@@ -156,9 +167,9 @@ fn count(floor: &[u8], field: usize) -> usize {
 
 fn any_move(random: &mut Random, floor: &[u8], journal: usize) -> Move {
     match random.under(50) {
-        0..=11 => paint(random, floor),
-        12..=19 => link(random, floor),
-        20..=30 => nudge(random, floor),
+        0..=11 => edit(random, floor, PAINT),
+        12..=19 => edit(random, floor, LINK),
+        20..=30 => edit(random, floor, NUDGE),
         31..=40 => UNDO,
         41..=43 => REDO,
         44 | 45 => PUT_BACK,
@@ -182,8 +193,17 @@ fn records_in(journal: usize) -> u32 {
     (journal / RECORD) as u32
 }
 
+/// How many places a tag has: faces, edge entries, or the twelve floats of the use positions.
+pub(super) fn places(floor: &[u8], tag: u8) -> usize {
+    match tag {
+        PAINT => count(floor, 80),
+        LINK => count(floor, 120),
+        _ => 12,
+    }
+}
+
 /// A place in a table of `count` entries, now and then just or far outside.
-fn place(random: &mut Random, count: usize) -> u32 {
+pub(super) fn place(random: &mut Random, count: usize) -> u32 {
     match random.under(12) {
         0 => count as u32,
         1 => random.odd_word(),
@@ -191,49 +211,49 @@ fn place(random: &mut Random, count: usize) -> u32 {
     }
 }
 
-/// A paint, mostly with a material of the same walkability.
-fn paint(random: &mut Random, floor: &[u8]) -> Move {
-    let face = place(random, count(floor, 80));
-    let walkable = (face as usize) < count(floor, 112);
-    let material = match random.under(8) {
-        0 => random.pick(&[23, 24, 0xFFFF_FFFF, 255]),
-        1 => random.under(23) as u32,
-        _ if walkable => random.pick(&[1, 3, 4, 5, 6, 9, 14, 16, 18, 20, 22]),
-        _ => random.pick(&[0, 2, 7, 8, 15, 17, 19]),
-    };
-    edit(PAINT, face, material)
+/// An edit with this tag, mostly a right one.
+fn edit(random: &mut Random, floor: &[u8], tag: u8) -> Move {
+    let place = place(random, places(floor, tag));
+    let to = any_value(random, floor, tag, place);
+    Edit { tag, place, to }.as_move()
 }
 
-/// A link, mostly with a right transition.
-fn link(random: &mut Random, floor: &[u8]) -> Move {
-    let entry = place(random, count(floor, 120));
-    let transition = match random.under(6) {
-        0 => random.odd_word(),
-        _ => random.from_to(-1, 63) as u32,
-    };
-    edit(LINK, entry, transition)
+/// What an edit of this field may write if the floor is right and, for a nudge, stays on the grid.
+pub(super) fn right_value(random: &mut Random, floor: &[u8], tag: u8, place: u32) -> u32 {
+    let walkable = (place as usize) < count(floor, 112);
+    match tag {
+        PAINT if walkable => random.pick(&[1, 3, 4, 5, 6, 9, 14, 16, 18, 20, 22]),
+        PAINT => random.pick(&[0, 2, 7, 8, 15, 17, 19]),
+        LINK => random.from_to(-1, 63) as u32,
+        _ => random.from_to(-LARGEST_STEP, LARGEST_STEP) as u32,
+    }
 }
 
-/// A nudge, often one that ends at zero or at the end of the grid.
-fn nudge(random: &mut Random, floor: &[u8]) -> Move {
-    let place = match random.under(12) {
-        0 => random.odd_word(),
-        _ => random.under(12) as u32,
-    };
+/// What an edit of this field might try to write: mostly a right value, for a nudge often one at a limit.
+pub(super) fn any_value(random: &mut Random, floor: &[u8], tag: u8, place: u32) -> u32 {
+    match (tag, random.under(8)) {
+        (PAINT, 0) => random.pick(&[23, 24, 0xFFFF_FFFF, 255]),
+        (PAINT, 1) => random.under(23) as u32,
+        (LINK, 0) => random.odd_word(),
+        (NUDGE, 0..=4) => limit_step(random, floor, place) as u32,
+        _ => right_value(random, floor, tag, place),
+    }
+}
+
+/// A step that ends at zero, at the end of the grid or at the limit of steps, or that is none.
+fn limit_step(random: &mut Random, floor: &[u8], place: u32) -> i32 {
     let at = 12 + 4 * place.min(11) as usize;
     let now = match floor.len() >= at + 4 {
         true => grid::scaled(word_at(floor, at)).unwrap_or(0) as i32,
         false => 0,
     };
-    let step = match random.under(8) {
+    match random.under(5) {
         0 => 0,
         1 => -now,
         2 => 65_536 - now,
         3 => -65_536 - now,
-        4 => random.pick(&[640, 641, -640, -641, i32::MIN, i32::MAX]),
-        _ => random.from_to(-640, 640) as i32,
-    };
-    edit(NUDGE, place, step as u32)
+        _ => random.pick(&[640, 641, -640, -641, i32::MIN, i32::MAX]),
+    }
 }
 
 /// A journal of 4,096 records or nearly so, where every record repaints face 0 as it is.
@@ -266,8 +286,8 @@ fn full(random: &mut Random) -> Play {
 
 fn near_the_end(random: &mut Random, floor: &[u8]) -> Move {
     match random.under(12) {
-        0..=3 => paint(random, floor),
-        4 | 5 => nudge(random, floor),
+        0..=3 => edit(random, floor, PAINT),
+        4 | 5 => edit(random, floor, NUDGE),
         6 | 7 => UNDO,
         8 | 9 => REDO,
         10 => Move::SpoilJournal {
@@ -299,7 +319,7 @@ fn crafted(random: &mut Random) -> Play {
         let present = if number < k { record.new } else { record.old };
         let at_cursor = if undoes { number + 1 == k } else { number == k };
         if at_cursor || random.once_in(2) {
-            lay(&mut floor, record, present);
+            lay(&mut floor, record.tag, record.place, present);
         }
     }
     let moves = (0..random.from_to(1, 4))
@@ -316,12 +336,7 @@ fn crafted(random: &mut Random) -> Play {
 
 fn any_record(random: &mut Random, floor: &[u8]) -> Record {
     let tag = random.pick(&[PAINT, PAINT, LINK, LINK, NUDGE, NUDGE, 0, 4]);
-    let places = match tag {
-        PAINT => count(floor, 80),
-        LINK => count(floor, 120),
-        _ => 12,
-    };
-    let place = place(random, places);
+    let place = place(random, places(floor, tag));
     let [old, new] = match tag == PAINT && random.once_in(4) {
         true => random.pick(&[[7, 23], [23, 7], [24, 0], [0, 0xFFFF_FFFF], [23, 23]]),
         false => [any_word(random, tag), any_word(random, tag)],
@@ -357,12 +372,13 @@ fn any_word(random: &mut Random, tag: u8) -> u32 {
     }
 }
 
-/// Lays four bytes on the floor where the record says, if that is inside.
-fn lay(floor: &mut [u8], record: &Record, word: u32) {
-    let at = match record.tag {
-        PAINT if floor.len() >= 136 => start(floor, 2) + 4 * record.place as usize,
-        LINK if floor.len() >= 136 => start(floor, 7) + 8 * record.place as usize + 4,
-        NUDGE if record.place < 12 => 12 + 4 * record.place as usize,
+/// Lays four bytes on the floor where this field stands, if that is inside.
+pub(super) fn lay(floor: &mut [u8], tag: u8, place: u32, word: u32) {
+    let entry = place as usize;
+    let at = match tag {
+        PAINT if floor.len() >= 136 => start(floor, 2) + 4 * entry,
+        LINK if floor.len() >= 136 => start(floor, 7) + 8 * entry + 4,
+        NUDGE if place < 12 => 12 + 4 * entry,
         _ => return,
     };
     if at + 4 <= floor.len() {

@@ -7,7 +7,7 @@ use borrow.Author.Tests.{not-true, not-false}
 use mir.Syntax.{w64}
 use mir.ValLaws.{toZ-ofZ}
 use lib.Ieee.{binary32, ofBits}
-use Rattle.grid.specs.Grid.{within, onGrid, scaled}
+use Rattle.grid.specs.Grid.{within, onGrid, scaled, largestStep}
 use Rattle.grid.proofs.Nudges.{no-step, no-grid, by-sum}
 use Rattle.grid.proofs.Answers.{on-is, v-is, v-small, within-bound}
 use Rattle.wire.proofs.Signed.{Reads, read, param, plus, fits, stored}
@@ -15,13 +15,13 @@ use Rattle.grid.proofs.may_nudge.Statement.{statement}
 use Rattle.grid.proofs.may_nudge.Tie as tie
 
 -- what the first test says
-asked : (c : tie.After-is-within) → c .is-within .result ≡ within 640 (c .before .args .n)
-asked c = c .is-within .ensures ∙ ap (within 640) (toZ-ofZ w64 _ (c .before .fits .n))
+asked : (c : tie.After-is-within) → c .is-within .result ≡ within largestStep (c .before .args .n)
+asked c = c .is-within .ensures ∙ ap (within largestStep) (toZ-ofZ w64 _ (c .before .fits .n))
 
 returns : tie.Need-returns
 returns c = sym (no-step _ (c .before .before .args .n) (sym (asked (c .before)) ∙ not-true _ (c .if1 .taken)))
 
-step : (c : tie.Else1) → within 640 (c .before .before .args .n) ≡ true
+step : (c : tie.Else1) → within largestStep (c .before .before .args .n) ≡ true
 step c = sym (asked (c .before)) ∙ not-false _ (c .if1 .left)
 
 returns-2 : tie.Need-returns-2
@@ -32,7 +32,7 @@ on c = sym (on-is _ _ (c .before .before .scaled-of .ensures)) ∙ not-false _ (
 
 -- the sum as the machine works it out
 sum : (c : tie.After-scaled-of) → Reads 66176 (read (c .scaled-of .result .v) +ℤ read (c .before .before .before .args .n)) (c .scaled-of .result .v +ℤ c .before .before .before .args .n)
-sum c = plus (param (v-small _ _ (c .scaled-of .ensures)) tt) (param (within-bound 640 (c .before .before .before .args .n) (step (c .before))) tt)
+sum c = plus (param (v-small _ _ (c .scaled-of .ensures)) tt) (param (within-bound largestStep (c .before .before .before .args .n) (step (c .before))) tt)
 
 add-is-within : tie.Need-add-is-within
 add-is-within c = fits (sum (c .before .before .before .before)) tt
