@@ -5,31 +5,39 @@
    one that a call may write is the one whose pointer is not const. No call can see whether two slices overlap,
    so no call checks it. wingpollen.hpp keeps this duty for C++ programs.
 
-   Nothing else is to be checked first. Any bytes, any lengths and any numbers may be handed in, f and k too: a
-   call answers with the thing asked for (number 0, place 0) or with one refusal and its place, and always returns.
-   An empty slice has any pointer but NULL; it is not followed.
+   Nothing else is to be checked first. Any bytes, any lengths and any numbers may be handed in, f and the bench
+   too: a call answers with the thing asked for (number 0, place 0) or with one refusal and its place, and always
+   returns. An empty slice has any pointer but NULL; it is not followed.
 
    What is lent comes back like this:
      work     the first WP_WORK bytes are zero, the rest is untouched; with refusal 20 all of it is untouched
      out      the form, then the old rest; untouched on refusal
-     floor    an edit, undo or redo writes four bytes; untouched on refusal
-     journal  an edit writes one record; untouched by everything else
-   A put-back that stops (27) is the one refusal that keeps what it did: floor, f and k are where it stopped.
+     floor    an edit or undo writes four bytes, a put-back four for each record it takes out; untouched on refusal
+     journal  an edit writes one record; an undo or put-back moves records down into the room of those it takes out,
+              and the bytes past the last one stay; untouched on refusal
+   A put-back that stops (43 or 27) is the one refusal that keeps what it did: floor, journal and f are where it
+   stopped.
 
-   The calls keep nothing between them, so threads may call at once, each with memory of its own. None takes memory
-   from the heap, and 16 KiB of stack are plenty (10 KiB measured, on a tree 64 steps deep).
-   The numbers of the refusals and their places are those of document 01; wingpollen.hpp has words for them. */
+   The calls keep nothing between them, so threads may call at once, each with memory of its own to lend.
+   TWO BENCHES AT ONE FLOOR TAKE TURNS: they share the floor, the journal and f, and what is lent to one call is not
+   there to be lent to another. So no two calls that are lent that floor or that journal may run at once, whichever
+   bench they are for, and those that only read are no exception: no query of a floor while the other bench paints it.
+   And the f that a call answers is to be handed in with the next call of either bench.
+
+   No call takes memory from the heap, and 16 KiB of stack are plenty (10 KiB measured, on a tree 64 steps deep).
+   The numbers of the refusals and their places are those of documents 01 and 02; wingpollen.hpp has words for them. */
 #ifndef WINGPOLLEN_H
 #define WINGPOLLEN_H
 
 #include <stddef.h>
 #include <stdint.h>
 
-/* Work memory that the calls over a floor ask for; bytes of a journal's record, and the most records kept;
-   the longest text; how many rooms a layout has at most. */
+/* Work memory that the calls over a floor ask for; bytes of a journal's record, the most records kept, and how many
+   benches share them; the longest text; how many rooms a layout has at most. */
 #define WP_WORK 65536u
-#define WP_RECORD 15u
+#define WP_RECORD 16u
 #define WP_RECORDS 4096u
+#define WP_BENCHES 2u
 #define WP_TEXT 65536u
 #define WP_ROOMS 64u
 
@@ -70,12 +78,11 @@ typedef struct wp_point {
     uint32_t visited;
 } wp_point;
 
-/* The answer of every call with a journal: hand f (records kept) and k (cursor) in again with the next call. */
+/* The answer of every call with a journal. f is how many records are kept, those of both benches. */
 typedef struct wp_session {
     uint32_t number;
     uint32_t place;
     uint32_t f;
-    uint32_t k;
 } wp_session;
 
 /* What a room sees: mark j of row is set if it sees room j. seen counts the marks. */
@@ -101,23 +108,23 @@ wp_form wp_rewrite(const uint8_t *bytes, size_t bytes_length, uint8_t *work, siz
 wp_point wp_query(const uint8_t *bytes, size_t bytes_length, uint8_t *work, size_t work_length,
                   int32_t x, int32_t y);
 
-/* Edits. A nudge's place is 0 to 11, one of the floats of the use positions; its step is in sixty-fourths. Two edits that
+/* Edits by bench 0 or 1, each of which may hold half of the records that fit into the journal. A nudge's place is 0 to
+   11, one of the floats of the use positions; its step is in sixty-fourths. Two edits, of one bench or of both, that
    differ in call or place, each accepted on the same floor with journal room for both, leave the same floor in either
    order. Of two paints of one face, or two links of one entry, the later counts; two nudges of one place add up. */
 wp_session wp_paint(uint8_t *floor, size_t floor_length, uint8_t *journal, size_t journal_length,
-                    uint32_t f, uint32_t k, uint32_t face, uint32_t material);
+                    uint32_t f, uint32_t bench, uint32_t face, uint32_t material);
 wp_session wp_link(uint8_t *floor, size_t floor_length, uint8_t *journal, size_t journal_length,
-                   uint32_t f, uint32_t k, uint32_t entry, int32_t transition);
+                   uint32_t f, uint32_t bench, uint32_t entry, int32_t transition);
 wp_session wp_nudge(uint8_t *floor, size_t floor_length, uint8_t *journal, size_t journal_length,
-                    uint32_t f, uint32_t k, uint32_t place, int32_t step);
+                    uint32_t f, uint32_t bench, uint32_t place, int32_t step);
 
-/* One edit undone, one done again, and all of them put back. These only read the journal. */
-wp_session wp_undo(uint8_t *floor, size_t floor_length, const uint8_t *journal, size_t journal_length,
-                   uint32_t f, uint32_t k);
-wp_session wp_redo(uint8_t *floor, size_t floor_length, const uint8_t *journal, size_t journal_length,
-                   uint32_t f, uint32_t k);
-wp_session wp_put_back(uint8_t *floor, size_t floor_length, const uint8_t *journal, size_t journal_length,
-                       uint32_t f, uint32_t k);
+/* The bench's latest edit undone, and all its edits put back, as far as the other bench has not changed the same places
+   since (43). Neither takes out a record of the other bench. */
+wp_session wp_undo(uint8_t *floor, size_t floor_length, uint8_t *journal, size_t journal_length,
+                   uint32_t f, uint32_t bench);
+wp_session wp_put_back(uint8_t *floor, size_t floor_length, uint8_t *journal, size_t journal_length,
+                       uint32_t f, uint32_t bench);
 
 /* Layout texts (LYT) in their fixed form, as they are or with one room renamed. */
 wp_form wp_layout_rewrite(const uint8_t *text, size_t text_length, uint8_t *out, size_t out_length);

@@ -1,14 +1,16 @@
 // wingpollen.hpp: the library for C++17 programs: the refusals with words for volunteers, texts and floors as values,
-// and Bench, one visitor's session over one floor, which puts the floor back when it ends.
+// SharedFloor, one floor and one journal for two benches, and Visit, one visitor at one of them; both put back at last.
 //
 // The engine's one duty (wingpollen.h) is kept here by ownership: whatever a call may write is memory that belongs to
-// the Bench, or is made for that one call, and none of it can be reached from outside except to be read between calls.
-// Nothing here throws but what memory itself may throw when it runs out, and no Bench needs memory to put back.
+// the SharedFloor, or is made for that one call, and none of it can be reached from outside except to be read between
+// calls. That two benches take turns is left to the program: one thread at a time calls a SharedFloor or its Visits.
+// Nothing here throws but what memory itself may throw when it runs out, and nothing needs memory to put back.
 #ifndef WINGPOLLEN_HPP
 #define WINGPOLLEN_HPP
 
 #include "wingpollen.h"
 
+#include <cassert>
 #include <cstddef>
 #include <cstdint>
 #include <string>
@@ -47,11 +49,10 @@ WINGPOLLEN_FIELD(wp_point, place, 4, std::uint32_t);
 WINGPOLLEN_FIELD(wp_point, found, 8, std::uint32_t);
 WINGPOLLEN_FIELD(wp_point, face, 12, std::uint32_t);
 WINGPOLLEN_FIELD(wp_point, visited, 16, std::uint32_t);
-WINGPOLLEN_LAYOUT(wp_session, 16, 4);
+WINGPOLLEN_LAYOUT(wp_session, 12, 4);
 WINGPOLLEN_FIELD(wp_session, number, 0, std::uint32_t);
 WINGPOLLEN_FIELD(wp_session, place, 4, std::uint32_t);
 WINGPOLLEN_FIELD(wp_session, f, 8, std::uint32_t);
-WINGPOLLEN_FIELD(wp_session, k, 12, std::uint32_t);
 WINGPOLLEN_LAYOUT(wp_row, 24, 8);
 WINGPOLLEN_FIELD(wp_row, number, 0, std::uint32_t);
 WINGPOLLEN_FIELD(wp_row, place, 4, std::uint32_t);
@@ -66,7 +67,7 @@ WINGPOLLEN_FIELD(wp_caption_at, length, 12, std::uint32_t);
 #undef WINGPOLLEN_LAYOUT
 #undef WINGPOLLEN_FIELD
 
-// The refusals, by their numbers in document 01. Every number an answer has is accepted or one of these.
+// The refusals, by their numbers in documents 01 and 02. Every number an answer has is accepted or one of these.
 enum class Refusal : std::uint32_t {
     accepted = 0,
     length = 1,
@@ -111,6 +112,8 @@ enum class Refusal : std::uint32_t {
     output_short = 40,
     no_caption = 41,
     link_nowhere = 42,
+    blocked = 43,
+    bench = 45,
 };
 
 // A short sentence for the volunteer at the bench.
@@ -141,10 +144,10 @@ constexpr std::string_view words(Refusal refusal) noexcept {
         case Refusal::paint: return "That paint is none the house knows, or would change where visitors can walk.";
         case Refusal::link: return "A link leads to a room from 0 to 63, or nowhere (-1).";
         case Refusal::nudge: return "That nudge is too large, or begins or ends off the grid.";
-        case Refusal::journal_full: return "The journal is full.";
-        case Refusal::no_step: return "There is nothing more to undo or redo.";
+        case Refusal::journal_full: return "The journal has no more room for this bench.";
+        case Refusal::no_step: return "There is nothing more to undo at this bench.";
         case Refusal::record: return "The journal and the floor disagree at this step.";
-        case Refusal::session: return "The session's numbers do not fit its journal.";
+        case Refusal::session: return "The journal is too short for the edits it should have.";
         case Refusal::point_beyond: return "That point lies beyond the grid.";
         case Refusal::vertex_off_grid: return "A corner of the floor is not on the grid.";
         case Refusal::text_length: return "The text is too long.";
@@ -159,13 +162,16 @@ constexpr std::string_view words(Refusal refusal) noexcept {
         case Refusal::output_short: return "There is too little space for what would be written, or its text would be too long.";
         case Refusal::no_caption: return "Neither text has a name for that room.";
         case Refusal::link_nowhere: return "An edge leads to a room that the layout does not have.";
+        case Refusal::blocked: return "The other visitor has changed the same place since, and has to undo that first.";
+        case Refusal::bench: return "There is no such bench: one is 0, the other is 1.";
     }
     return "The library answered a number that is no refusal.";
 }
 
-// What the place beside a refusal counts, or nothing where the place says nothing. An edit refused by 21 to 28 has
-// the place that it was asked for, and undo, redo and put-back have their cursor: both are simply "place". Lines count
-// from 1; line 0 is the name that was typed for a room. A text that ends early has the number of its lines, which may be 0.
+// What the place beside a refusal counts, or nothing where the place says nothing. What only undo and put-back are
+// refused by, and a bench that is none, have the records kept. 28 has the place that an edit was asked for, and the
+// records else: it is simply "place". Lines count from 1; line 0 is the name that was typed for a room. A text that
+// ends early has the number of its lines, which may be 0.
 constexpr std::string_view place_words(Refusal refusal) noexcept {
     switch (refusal) {
         case Refusal::world_coords:
@@ -190,9 +196,11 @@ constexpr std::string_view place_words(Refusal refusal) noexcept {
         case Refusal::link:
         case Refusal::nudge:
         case Refusal::journal_full:
+        case Refusal::session: return "place";
         case Refusal::no_step:
         case Refusal::record:
-        case Refusal::session: return "place";
+        case Refusal::blocked:
+        case Refusal::bench: return "records";
         case Refusal::vertex_off_grid: return "vertex";
         case Refusal::text_byte: return "byte";
         case Refusal::text_line:
@@ -308,64 +316,88 @@ inline Caption caption(std::string_view visitor, std::string_view house, std::ui
     return {at, text.substr(at.start, at.length)};
 }
 
-// A visit that was broken off: everything a Bench needs to go on with it, or to put it back, later.
+// A shared floor that was broken off: everything a SharedFloor needs to go on with it, or to put it back, later. A
+// record says whose it is, so nothing of the visits needs keeping: whoever sits down at a bench again has that bench's
+// edits.
 struct Saved {
     std::vector<std::uint8_t> floor;
     std::vector<std::uint8_t> journal;
     std::uint32_t f = 0;
-    std::uint32_t k = 0;
 };
 
-// Who is told how a visit ended. A Bench's last put-back may happen in its destructor, where no answer can be returned;
-// it must be heard all the same, since a floor that is not put back is what the next visitor would walk in.
+// Who is told how things ended. The last put-back may happen in a destructor, where no answer can be returned; it must
+// be heard all the same, since a floor that is not put back is what the next visitor would walk in.
 class Witness {
 public:
-    // Number 0: the floor is the opening floor. Else the put-back was refused or stopped: floor, journal, f and k are
-    // those to go on from (Saved), and nothing is lost if they are kept. The bytes are gone when this returns.
-    virtual void left(const wp_session& answer, Bytes floor, Bytes journal) noexcept = 0;
+    // A visitor has left a bench. Number 0: none of the bench's edits is left. Else the put-back was refused or
+    // stopped, with 43 where the other visitor's later edits stand on what is left. That stays the bench's: the next
+    // visitor who sits down there can undo it when nothing blocks it, and the end of the SharedFloor puts it back.
+    virtual void left(std::uint32_t bench, const wp_session& answer) noexcept = 0;
+
+    // A SharedFloor has ended. f 0: no edit is left, and a floor that these calls alone have touched is the opening
+    // floor. Else the put-back was refused or stopped, or (number 0) a damaged journal has records of no bench: floor,
+    // journal and f are those to go on from (Saved), and nothing is lost if they are kept. The bytes are gone when this
+    // returns.
+    virtual void ended(const wp_session& answer, Bytes floor, Bytes journal) noexcept = 0;
 
 protected:
     ~Witness() = default;
 };
 
-// One visitor's session over one floor. It owns the floor's bytes, the journal, the work memory, f and k, puts the
-// floor back when it ends, and then tells its witness. Every call passes on to the library; nothing is tested here.
-class Bench {
-public:
-    // Opens a floor; opened() says what the reader said of it. The journal has room for so many edits.
-    Bench(Bytes floor, Witness& witness, std::size_t records = WP_RECORDS)
-        : Bench(Saved{copied(floor), std::vector<std::uint8_t>(WP_RECORD * records), 0, 0}, witness) {}
+class Visit;
 
-    // Goes on with a visit that was broken off.
-    Bench(Saved saved, Witness& witness)
+// One floor and one journal for two benches. It owns the floor's bytes, the journal, the work memory and f, puts back
+// what is left when it ends, and then tells its witness. Every call passes on to the library; nothing is tested here.
+// Its visits point at it, so it is neither copied nor moved, and has to outlive them.
+class SharedFloor {
+public:
+    // Opens a floor; opened() says what the reader said of it. The journal has room for so many edits, half for each
+    // bench.
+    SharedFloor(Bytes floor, Witness& witness, std::size_t records = WP_RECORDS)
+        : SharedFloor(Saved{copied(floor), std::vector<std::uint8_t>(WP_RECORD * records), 0}, witness) {}
+
+    // Goes on with a floor that was broken off. Its visitors sit down anew.
+    SharedFloor(Saved saved, Witness& witness)
         : witness_(&witness), saved_(std::move(saved)), work_(WP_WORK), opened_(read()) {}
 
-    Bench(const Bench&) = delete;
-    Bench& operator=(const Bench&) = delete;
+    SharedFloor(const SharedFloor&) = delete;
+    SharedFloor& operator=(const SharedFloor&) = delete;
 
-    ~Bench() {
+    ~SharedFloor() {
+        assert(visits_ == 0 && "a visit outlived its floor");
         if (witness_ != nullptr) {
             const wp_session answer = put_back();
-            witness_->left(answer, saved_.floor, saved_.journal);
+            witness_->ended(answer, saved_.floor, saved_.journal);
         }
     }
+
+    // A visitor sits down at a bench: Visit visit = floor.sit(0, witness). A bench is for one visitor at a time; two
+    // would undo each other's edits. A floor that ends with the line has no visits, hence the &.
+    [[nodiscard]] Visit sit(std::uint32_t bench, Witness& witness) & noexcept;
 
     const wp_floor& opened() const noexcept { return opened_; }
     bool accepted() const noexcept { return opened_.number == 0; }
 
-    // The floor's bytes as they stand, to be read before the next call.
+    // The floor's bytes as they stand, to be read before the next call, and the edits kept of both benches.
     Bytes floor() const noexcept { return saved_.floor; }
     std::uint32_t records() const noexcept { return saved_.f; }
-    std::uint32_t cursor() const noexcept { return saved_.k; }
 
-    wp_session paint(std::uint32_t face, std::uint32_t material) noexcept { return edited(wp_paint, face, material); }
-    wp_session link(std::uint32_t entry, std::int32_t room) noexcept { return edited(wp_link, entry, room); }
-    wp_session nudge(std::uint32_t place, std::int32_t step) noexcept { return edited(wp_nudge, place, step); }
-    wp_session undo() noexcept { return edited(wp_undo); }
-    wp_session redo() noexcept { return edited(wp_redo); }
-
-    // Also tried at the end of the visit. One that stops keeps what it undid and may be tried again.
-    wp_session put_back() noexcept { return edited(wp_put_back); }
+    // Puts back what is left, bench 0 and bench 1 in turn until neither takes a record out: what blocked one (43) may
+    // be gone once the other has put back. The answer is the last refusal of that last round, or 0; also tried at the
+    // end. It returns, whatever the bytes are, since every round but the last lowers f. On a floor that was accepted,
+    // and touched by these calls alone, the answer is 0 and f is 0: the last record of all has no later one to block
+    // it, and 27 does not happen there, so while any record is left the bench of the last one takes it out.
+    wp_session put_back() noexcept {
+        for (;;) {
+            const std::uint32_t before = saved_.f;
+            wp_session last{0, 0, before};
+            for (std::uint32_t bench = 0; bench < WP_BENCHES; ++bench) {
+                const wp_session answer = edited(wp_put_back, bench);
+                if (answer.number != 0) last = answer;
+            }
+            if (saved_.f >= before) return last;
+        }
+    }
 
     wp_floor read() noexcept {
         return wp_read(inside::to_read(floor()), floor().length, inside::to_write(work_), work_.size());
@@ -389,34 +421,82 @@ public:
         return form;
     }
 
-    // Breaks the visit off: the session is handed over as it is, nothing is put back and the witness hears nothing.
-    // What is left here is an empty floor, which every call refuses.
+    // Breaks everything off: floor, journal and f are handed over as they are, nothing is put back and no witness hears
+    // anything, neither now nor when this floor and its visits end. What is left here is an empty floor, which every
+    // call refuses, those of the visits too.
     Saved suspend() noexcept {
         witness_ = nullptr;
         return std::exchange(saved_, Saved{});
     }
 
 private:
+    friend class Visit;
+
     static std::vector<std::uint8_t> copied(Bytes bytes) {
         return bytes.length == 0 ? std::vector<std::uint8_t>{}
                                  : std::vector<std::uint8_t>(bytes.data, bytes.data + bytes.length);
     }
 
+    // Both benches hand in the one f, and the next call of either hands in what this one answered.
     template <class Call, class... Words>
-    wp_session edited(Call call, Words... words) noexcept {
+    wp_session edited(Call call, std::uint32_t bench, Words... words) noexcept {
         const wp_session answer =
             call(inside::to_write(saved_.floor), saved_.floor.size(), inside::to_write(saved_.journal),
-                 saved_.journal.size(), saved_.f, saved_.k, words...);
+                 saved_.journal.size(), saved_.f, bench, words...);
         saved_.f = answer.f;
-        saved_.k = answer.k;
         return answer;
     }
 
+    // Nobody, once all was broken off.
     Witness* witness_;
     Saved saved_;
     std::vector<std::uint8_t> work_;
     wp_floor opened_;
+    // Counted to notice a visit that outlives its floor.
+    std::size_t visits_ = 0;
 };
+
+// One visitor at a bench of a SharedFloor, from sitting down to leaving: when a Visit ends, it puts its bench back and
+// tells its own witness. A bench that is neither 0 nor 1 is the library's to refuse (45). Only sit makes a Visit, and
+// it stays where it was made: a floor declared before its visits outlives them, as the language has it.
+class Visit {
+public:
+    Visit(const Visit&) = delete;
+    Visit& operator=(const Visit&) = delete;
+
+    // After a suspend the edits are in the Saved, and an empty floor's refusal would be a false alarm.
+    ~Visit() {
+        if (floor_.witness_ != nullptr) witness_.left(bench_, put_back());
+        --floor_.visits_;
+    }
+
+    wp_session paint(std::uint32_t face, std::uint32_t material) noexcept {
+        return floor_.edited(wp_paint, bench_, face, material);
+    }
+    wp_session link(std::uint32_t entry, std::int32_t room) noexcept {
+        return floor_.edited(wp_link, bench_, entry, room);
+    }
+    wp_session nudge(std::uint32_t place, std::int32_t step) noexcept {
+        return floor_.edited(wp_nudge, bench_, place, step);
+    }
+    wp_session undo() noexcept { return floor_.edited(wp_undo, bench_); }
+
+    // Also tried at the end of the visit. One that stops keeps what it undid and may be tried again.
+    wp_session put_back() noexcept { return floor_.edited(wp_put_back, bench_); }
+
+private:
+    friend class SharedFloor;
+    Visit(SharedFloor& floor, std::uint32_t bench, Witness& witness) noexcept
+        : floor_(floor), witness_(witness), bench_(bench) {
+        ++floor_.visits_;
+    }
+
+    SharedFloor& floor_;
+    Witness& witness_;
+    std::uint32_t bench_;
+};
+
+inline Visit SharedFloor::sit(std::uint32_t bench, Witness& witness) & noexcept { return Visit(*this, bench, witness); }
 
 }  // namespace wingpollen
 

@@ -1,4 +1,4 @@
-// morning.cpp: plays a bench's morning from a script and says in words what each call answered.
+// morning.cpp: plays a morning at the two benches from a script and says in words what each call answered.
 //
 //     morning SCRIPT FLOORS
 //
@@ -6,8 +6,11 @@
 // parted by blanks; a line that starts with # is a remark, and blank lines are skipped. Commands:
 //
 //     visitor NUMBER        a visitor comes
-//     open FLOOR [RECORDS]  the bench opens a floor, with a journal for so many edits (4096)
-//     paint FACE MATERIAL   link ENTRY ROOM   nudge PLACE STEP   undo   redo   putback
+//     open FLOOR [RECORDS]  a floor is opened for both benches, with a journal for so many edits (4096)
+//     sit                   a visitor sits down at a bench
+//     paint FACE MATERIAL   link ENTRY ROOM   nudge PLACE STEP   undo   putback
+//     leave                 the visitor gets up and goes: the bench is put back
+//     close                 all have left, and the floor is closed: what is still to be put back is put back
 //     query X Y             which face holds the point, in sixty-fourths
 //     rewrite               the floor in fixed form, whether that has the same counts and is its own fixed form
 //     house FILE            the house's layout, for captions and the link check
@@ -15,11 +18,11 @@
 //     show                  both of them in fixed form
 //     rename ROOM NAME      a room of the visitor's layout and sight is named anew
 //     caption ROOM   row ROOM   linkcheck
-//     powercut PART BYTE VALUE  the visit is broken off, a byte of its saved floor or journal turns into VALUE, and the
-//                               visit goes on from what was saved
-//     leave                 the visitor goes: the floor is put back
-//     repair PART BYTE VALUE    after a put-back that stopped: the byte is set right and the rest is put back
+//     powercut PART BYTE VALUE  all is broken off, a byte of the saved floor or journal turns into VALUE, and all
+//                               goes on from what was saved: who sat at a bench sits there again
+//     repair PART BYTE VALUE    after a close that left edits: the byte is set right and the rest is put back
 //
+// What is done from sit to leave is done at a bench: `bench 1 undo` is bench 1's, and `undo` alone is bench 0's.
 // The floors are kept for the whole morning: the next visitor finds what the last one left. The morning fails (1) if
 // any floor is not what it was at the start, byte for byte; a script that cannot be played ends it at once (2).
 #include "../wingpollen.hpp"
@@ -90,13 +93,19 @@ public:
     // Plays one line of the script.
     void play(const std::string& line) {
         std::istringstream split(line);
-        const Words said{std::istream_iterator<std::string>(split), {}};
+        Words said{std::istream_iterator<std::string>(split), {}};
         if (said.empty() || said[0][0] == '#') return;
+        const bool names_bench = said[0] == "bench" && said.size() > 2;
+        bench_ = names_bench ? natural(said[1]) : 0;
+        if (names_bench) said.erase(said.begin(), said.begin() + 2);
         const auto found = commands().find(said[0]);
         if (found == commands().end()) give_up("unknown command: " + line);
-        const auto& [least, most, needs_bench, command] = found->second;
+        const auto& [least, most, needs, command] = found->second;
         if (said.size() - 1 < least || said.size() - 1 > most) give_up("wrong number of words: " + line);
-        if (needs_bench && !bench_) give_up("no floor is open: " + line);
+        if (names_bench && needs < Needs::free_bench) give_up("not done at a bench: " + line);
+        if (needs != Needs::nothing && !floor_) give_up("no floor is open: " + line);
+        if (needs == Needs::free_bench && visits_.count(bench_) != 0) give_up("someone sits there: " + line);
+        if (needs == Needs::visit && visits_.count(bench_) == 0) give_up("nobody sits there: " + line);
         std::cout << (said[0] == "visitor" ? "\n" : "") << line << ": ";
         command(*this, said);
         std::cout << '\n';
@@ -104,7 +113,7 @@ public:
 
     // The morning's end; true if every floor is what it was.
     bool good_end() {
-        bench_.reset();
+        if (floor_) give_up("a floor is still open: " + at_);
         std::uint64_t same = 0;
         for (const auto& [name, now] : gallery_) same += now == from_file(name);
         std::cout << "\nThe morning is over: " << counted(gallery_.size(), "floor") << " opened, " << same
@@ -112,52 +121,56 @@ public:
         return same == gallery_.size();
     }
 
-    // The visit has ended. A floor that is not put back is kept with its journal, for the repair.
-    void left(const wp_session& answer, Bytes floor, Bytes journal) noexcept override {
+    // A visitor has left. What the other one's edits still stand on is put back when the floor is closed.
+    void left(std::uint32_t, const wp_session& answer) noexcept override { say(answer, "put back"); }
+
+    // The floor is closed. One that is not put back is kept with its journal, for the repair.
+    void ended(const wp_session& answer, Bytes floor, Bytes journal) noexcept override {
+        say(answer, answer.f == 0 ? "put back" : "left over, edits of no bench");
         gallery_[at_] = owned(floor);
-        if (answer.number == 0) {
-            std::cout << "put back";
-        } else {
-            say(answer);
-            if (answer.k != 0) stopped_ = Saved{owned(floor), owned(journal), answer.f, answer.k};
-        }
+        if (answer.f != 0) stopped_ = Saved{owned(floor), owned(journal), answer.f};
         const bool same = gallery_[at_] == opening_;
         std::cout << (same ? "; byte for byte the opening floor" : "; NOT YET THE OPENING FLOOR");
     }
 
 private:
+    // What there must be: an open floor; besides, a bench where nobody sits, or someone who sits at the bench.
+    enum class Needs { nothing, floor, free_bench, visit };
+
     struct Command {
         std::size_t least, most;
-        bool needs_bench;
+        Needs needs;
         std::function<void(Morning&, const Words&)> command;
     };
 
-    // Least and most words behind the command, whether a floor must be open, and what it does.
+    // Least and most words behind the command, what it needs, and what it does.
     static const std::map<std::string, Command>& commands() {
         using M = Morning;
+        using N = Needs;
         using W = Words;
         static const std::map<std::string, Command> all = {
-            {"visitor", {1, 1, false, [](M& m, const W&) { m.visitor(); }}},
-            {"open", {1, 2, false, [](M& m, const W& w) { m.open(w[1], w.size() > 2 ? natural(w[2]) : WP_RECORDS); }}},
-            {"paint", {2, 2, true, [](M& m, const W& w) { say(m.bench_->paint(natural(w[1]), natural(w[2]))); }}},
-            {"link", {2, 2, true, [](M& m, const W& w) { say(m.bench_->link(natural(w[1]), whole(w[2]))); }}},
-            {"nudge", {2, 2, true, [](M& m, const W& w) { say(m.bench_->nudge(natural(w[1]), whole(w[2]))); }}},
-            {"undo", {0, 0, true, [](M& m, const W&) { say(m.bench_->undo()); }}},
-            {"redo", {0, 0, true, [](M& m, const W&) { say(m.bench_->redo()); }}},
-            {"putback", {0, 0, true, [](M& m, const W&) { say(m.bench_->put_back()); }}},
-            {"query", {2, 2, true, [](M& m, const W& w) { m.query(whole(w[1]), whole(w[2])); }}},
-            {"rewrite", {0, 0, true, [](M& m, const W&) { m.rewrite(); }}},
-            {"house", {1, 1, false, [](M& m, const W& w) { m.take(m.house_, w[1]); }}},
-            {"plan", {1, 1, false, [](M& m, const W& w) { m.take(m.plan_, w[1]); }}},
-            {"sight", {1, 1, false, [](M& m, const W& w) { m.take(m.sight_, w[1]); }}},
-            {"show", {0, 0, false, [](M& m, const W&) { m.show(); }}},
-            {"rename", {2, 2, false, [](M& m, const W& w) { m.rename(natural(w[1]), w[2]); }}},
-            {"caption", {1, 1, false, [](M& m, const W& w) { m.caption_of(natural(w[1])); }}},
-            {"row", {1, 1, false, [](M& m, const W& w) { m.row(natural(w[1])); }}},
-            {"linkcheck", {0, 0, true, [](M& m, const W&) { m.link_check(); }}},
-            {"powercut", {3, 3, true, [](M& m, const W& w) { m.power_cut(w); }}},
-            {"leave", {0, 0, true, [](M& m, const W&) { m.bench_.reset(); }}},
-            {"repair", {3, 3, false, [](M& m, const W& w) { m.repair(w); }}},
+            {"visitor", {1, 1, N::nothing, [](M& m, const W&) { m.visitor(); }}},
+            {"open", {1, 2, N::nothing, [](M& m, const W& w) { m.open(w[1], w.size() > 2 ? natural(w[2]) : WP_RECORDS); }}},
+            {"sit", {0, 0, N::free_bench, [](M& m, const W&) { m.sit(); }}},
+            {"paint", {2, 2, N::visit, [](M& m, const W& w) { say(m.visit().paint(natural(w[1]), natural(w[2]))); }}},
+            {"link", {2, 2, N::visit, [](M& m, const W& w) { say(m.visit().link(natural(w[1]), whole(w[2]))); }}},
+            {"nudge", {2, 2, N::visit, [](M& m, const W& w) { say(m.visit().nudge(natural(w[1]), whole(w[2]))); }}},
+            {"undo", {0, 0, N::visit, [](M& m, const W&) { say(m.visit().undo()); }}},
+            {"putback", {0, 0, N::visit, [](M& m, const W&) { say(m.visit().put_back()); }}},
+            {"leave", {0, 0, N::visit, [](M& m, const W&) { m.visits_.erase(m.bench_); }}},
+            {"close", {0, 0, N::floor, [](M& m, const W&) { m.close(); }}},
+            {"query", {2, 2, N::floor, [](M& m, const W& w) { m.query(whole(w[1]), whole(w[2])); }}},
+            {"rewrite", {0, 0, N::floor, [](M& m, const W&) { m.rewrite(); }}},
+            {"house", {1, 1, N::nothing, [](M& m, const W& w) { m.take(m.house_, w[1]); }}},
+            {"plan", {1, 1, N::nothing, [](M& m, const W& w) { m.take(m.plan_, w[1]); }}},
+            {"sight", {1, 1, N::nothing, [](M& m, const W& w) { m.take(m.sight_, w[1]); }}},
+            {"show", {0, 0, N::nothing, [](M& m, const W&) { m.show(); }}},
+            {"rename", {2, 2, N::nothing, [](M& m, const W& w) { m.rename(natural(w[1]), w[2]); }}},
+            {"caption", {1, 1, N::nothing, [](M& m, const W& w) { m.caption_of(natural(w[1])); }}},
+            {"row", {1, 1, N::nothing, [](M& m, const W& w) { m.row(natural(w[1])); }}},
+            {"linkcheck", {0, 0, N::floor, [](M& m, const W&) { m.link_check(); }}},
+            {"powercut", {3, 3, N::floor, [](M& m, const W& w) { m.power_cut(w); }}},
+            {"repair", {3, 3, N::nothing, [](M& m, const W& w) { m.repair(w); }}},
         };
         return all;
     }
@@ -169,18 +182,33 @@ private:
     }
 
     void open(const std::string& name, std::uint32_t records) {
-        if (bench_ || stopped_) give_up("the last floor is not put back yet: " + at_);
+        if (floor_ || stopped_) give_up("the last floor is not put back yet: " + at_);
         at_ = name;
         if (gallery_.count(name) == 0) gallery_[name] = from_file(name);
         opening_ = gallery_[name];
-        bench_ = std::make_unique<Bench>(opening_, *this, records);
+        floor_ = std::make_unique<SharedFloor>(opening_, *this, records);
         say_opened();
+    }
+
+    Visit& visit() const { return *visits_.at(bench_); }
+
+    void sit() {
+        take_seat(bench_);
+        std::cout << "sits down, " << counted(floor_->records(), "edit") << " kept";
+    }
+
+    // A Visit is neither copied nor moved: it is made where it stays.
+    void take_seat(std::uint32_t bench) { visits_[bench].reset(new Visit(floor_->sit(bench, *this))); }
+
+    void close() {
+        if (!visits_.empty()) give_up("someone still sits at a bench");
+        floor_.reset();
     }
 
     Owned from_file(const std::string& name) const { return owned(std::string_view(contents(floors_ + '/' + name))); }
 
     void say_opened() const {
-        const wp_floor& floor = bench_->opened();
+        const wp_floor& floor = floor_->opened();
         if (floor.number != 0) {
             std::cout << refused(floor);
         } else {
@@ -189,13 +217,12 @@ private:
         }
     }
 
-    static void say(const wp_session& answer) {
-        std::cout << (answer.number == 0 ? "done" : refused(answer)) << "; " << counted(answer.f, "edit")
-                  << " kept, cursor " << answer.k;
+    static void say(const wp_session& answer, const std::string& done = "done") {
+        std::cout << (answer.number == 0 ? done : refused(answer)) << "; " << counted(answer.f, "edit") << " kept";
     }
 
     void query(std::int32_t x, std::int32_t y) {
-        const wp_point point = bench_->query(x, y);
+        const wp_point point = floor_->query(x, y);
         if (point.number != 0) {
             std::cout << refused(point);
         } else {
@@ -204,15 +231,15 @@ private:
         }
     }
 
-    // The form is tried at a bench of its own, with nobody to tell: nothing is edited there.
+    // The form is opened as a floor of its own, with nobody to tell: nothing is edited there.
     void rewrite() {
-        const FloorForm form = bench_->rewrite();
+        const FloorForm form = floor_->rewrite();
         if (form.answer.number != 0) {
             std::cout << refused(form.answer);
             return;
         }
-        Bench again(form.bytes, *this);
-        const wp_floor now = bench_->read(), then = again.opened();
+        SharedFloor again(form.bytes, *this);
+        const wp_floor now = floor_->read(), then = again.opened();
         const bool same_counts = then.number == 0 && now.faces == then.faces && now.walkable == then.walkable &&
                                  now.edges == then.edges && now.perimeters == then.perimeters;
         std::cout << counted(form.bytes.size(), "byte") << (same_counts ? ", the same counts" : ", OTHER COUNTS")
@@ -275,7 +302,7 @@ private:
     }
 
     void link_check() {
-        const wp_answer answer = bench_->link_check(house_);
+        const wp_answer answer = floor_->link_check(house_);
         std::cout << (answer.number == 0 ? "every link leads to a room" : refused(answer));
     }
 
@@ -286,30 +313,38 @@ private:
         part[natural(said[2])] = static_cast<std::uint8_t>(natural(said[3]));
     }
 
+    // The visits of the floor that was broken off end without a word, and before that floor does.
     void power_cut(const Words& said) {
-        Saved saved = bench_->suspend();
+        Saved saved = floor_->suspend();
         set_byte(saved, said);
-        bench_ = std::make_unique<Bench>(std::move(saved), *this);
+        std::vector<std::uint32_t> benches;
+        for (const auto& visit : visits_) benches.push_back(visit.first);
+        visits_.clear();
+        floor_ = std::make_unique<SharedFloor>(std::move(saved), *this);
+        for (const std::uint32_t bench : benches) take_seat(bench);
         say_opened();
-        std::cout << "; " << counted(bench_->records(), "edit") << " kept, cursor " << bench_->cursor();
+        std::cout << "; " << counted(floor_->records(), "edit") << " kept";
     }
 
     void repair(const Words& said) {
         if (!stopped_) give_up("nothing is to be repaired");
         Saved saved = *std::exchange(stopped_, std::nullopt);
         set_byte(saved, said);
-        Bench again(std::move(saved), *this);
+        SharedFloor again(std::move(saved), *this);
     }
 
     std::string texts_, floors_;
     std::string house_, plan_, sight_;
-    // The floors as they are now; the one that the bench is at, and what it was when it was opened.
+    // The floors as they are now; the one that is open, and what it was when it was opened.
     std::map<std::string, Owned> gallery_;
     std::string at_;
     Owned opening_;
     std::optional<Saved> stopped_;
-    // Last, so that it ends first: its end is told to all the others.
-    std::unique_ptr<Bench> bench_;
+    // The bench of the line that is played.
+    std::uint32_t bench_ = 0;
+    // Last, so that they end first, the visits before the floor: their end is told to all the others.
+    std::unique_ptr<SharedFloor> floor_;
+    std::map<std::uint32_t, std::unique_ptr<Visit>> visits_;
 };
 
 }  // namespace

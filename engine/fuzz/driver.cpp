@@ -25,9 +25,9 @@ void put(Input& input, std::size_t at, std::uint32_t word) {
 
 // A few changes: a byte, a bit, a word among those that rules turn on, a byte from elsewhere, the end cut off.
 void change(Input& input) {
-    static const std::uint32_t turning[] = {0,    1,    2,     3,     4,     12,         15,         22,        23,
-                                            63,   64,   135,   136,   640,   641,        4096,       4097,      8191,
-                                            8192, 8193, 12288, 65535, 65536, 0x7F800000, 0x80000000, 0xFFFFFFFF};
+    static const std::uint32_t turning[] = {0,    1,    2,    3,     4,     12,    13,         16,         22,
+                                            23,   63,   64,   135,   136,   640,   641,        4096,       4097,
+                                            8191, 8192, 8193, 12288, 65535, 65536, 0x7F800000, 0x80000000, 0xFFFFFFFF};
     for (std::size_t times = 1 + under(4); times != 0 && !input.empty(); --times) {
         const std::size_t at = under(input.size());
         switch (under(5)) {

@@ -1,9 +1,9 @@
 #!/usr/bin/env python3
 """Writes the fuzz target's first inputs: seeds.py FOLDER. Each is a head of 28 bytes and then the slices, as calls.cpp reads
-them: the sample floors under every call over a floor, small journals, pairs of edits, and texts that read and texts that do not."""
+them: the sample floors under every call over a floor, small journals of two benches, pairs of edits, and texts that read and texts that do not."""
 import importlib.util, pathlib, struct, sys
 
-READ, REWRITE, QUERY, PAINT, LINK, NUDGE, UNDO, REDO, PUT_BACK, LAYOUT, LAYOUT_NAME, SIGHT, SIGHT_NAME, ROW, CHECK, CAPTION = range(16)
+READ, REWRITE, QUERY, PAINT, LINK, NUDGE, UNDO, PUT_BACK, LAYOUT, LAYOUT_NAME, SIGHT, SIGHT_NAME, ROW, CHECK, CAPTION = range(15)
 
 here = pathlib.Path(__file__).resolve().parent
 spec = importlib.util.spec_from_file_location("make", here.parent.parent / "samples" / "make.py")
@@ -11,18 +11,22 @@ make = importlib.util.module_from_spec(spec)
 spec.loader.exec_module(make)
 
 
-def case(call, first, second=b"", third=b"", f=0, k=0, a=0, b=0, work=65536, out=4096, lie=0b10110):
-    head = struct.pack("<BBIHHHIIII", call, lie, work, out, len(second), len(third), f, k, a & make.NONE, b & make.NONE)
+def case(call, first, second=b"", third=b"", f=0, bench=0, a=0, b=0, work=65536, out=4096, lie=0b10110):
+    head = struct.pack("<BBIHHHIIII", call, lie, work, out, len(second), len(third), f, bench, a & make.NONE, b & make.NONE)
     return head + third + second + first
 
 
-def record(tag, place, old, new):
-    return struct.pack("<BHIII", tag, 12, place, old, new)
+RECORD = 16
+ONE, TWO = 0x3F800000, 0x40000000  # floats
 
 
-def second_edit(call, place, value):
+def record(bench, tag, place, old, new, length=13):
+    return struct.pack("<BHBIII", tag, length, bench, place, old, new)
+
+
+def second_edit(call, place, value, bench):
     """The edit that is made beside the first one, in both orders."""
-    return struct.pack("<BII", call - PAINT, place, value & make.NONE)
+    return struct.pack("<BIIB", call - PAINT, place, value & make.NONE, bench)
 
 
 LAYOUTS = [
@@ -39,6 +43,58 @@ LAYOUTS = [
 SIGHTS = [b"hall 1\n  Kitchen\nkitchen 2\n  hall\n  kitchen\n", b"HALL 0\n", b"", b"hall 1\n  garden\n", b"hall 2\n hall\n hall\n", b"hall 1\n", b"hall"]
 
 
+def moves_of(bench):
+    """What a visitor at a bench does in visits.hpp, each in three bytes."""
+    return (lambda face, material: (bench, face, material), lambda entry, to: (2 + bench, entry, to + 2),
+            lambda place, step: (4 + bench, place, step // 8 + 128), (6 + bench, 0, 0), (8 + bench, 0, 0))
+
+
+(PAINT0, LINK0, NUDGE0, BACK0, UNDO0), (PAINT1, LINK1, NUDGE1, BACK1, UNDO1) = moves_of(0), moves_of(1)
+VISITS = [
+    [PAINT0(0, 5), PAINT1(0, 6), LINK1(0, 1), LINK0(0, 2), NUDGE0(2, 64), NUDGE1(2, -64), UNDO0, UNDO1],  # in each other's way
+    [NUDGE0(0, 8), NUDGE1(0, 8), NUDGE0(0, 8), NUDGE1(0, 8), NUDGE0(0, 8), NUDGE1(0, 8), NUDGE0(0, 8), NUDGE1(0, 8), NUDGE0(0, 8), BACK0, BACK1],
+    [PAINT0(0, 5), LINK1(0, 1), UNDO0, PAINT0(0, 3), BACK1, PAINT1(0, 4), LINK0(1, 63), BACK0, UNDO1, BACK0],
+    [PAINT0(0, 5), PAINT0(0, 3), PAINT0(0, 4), PAINT0(0, 6), PAINT0(0, 5), PAINT1(0, 9), PAINT0(0, 1), NUDGE1(12, 0), LINK1(0, 64)],
+    [],
+]
+
+
+def halves(floor):
+    """Edits where a bench has its half, one less or more than it, where nobody's record is among them, and with f up to and past what fits."""
+    for own, other, nobody, fit in ((1, 0, 0, 2), (0, 1, 0, 2), (1, 0, 0, 3), (0, 1, 1, 2), (1, 1, 0, 4), (2, 1, 0, 4), (0, 3, 0, 4), (0, 4, 0, 4), (1, 1, 1, 5), (3, 0, 0, 4)):
+        kept = [record(0, 3, 0, 0, 0)] * own + [record(1, 3, 0, 0, 0)] * other + [record(2, 3, 0, 0, 0)] * nobody
+        journal = b"".join(kept).ljust(fit * RECORD, b"\0")
+        for bench in (0, 1):
+            yield case(PAINT, floor, journal, second_edit(LINK, 0, 1, bench), f=len(kept), bench=bench, a=0, b=5)
+            yield case(NUDGE, floor, journal[:-1], f=len(kept), bench=bench, a=0, b=1)
+
+
+def taken_out(floor):
+    """Undo and put-back over journals of two benches. The floor's first two floats are those that the records leave."""
+    floor = make.changed(make.changed(floor, 12, ONE), 16, TWO)
+    up, down, beside = (3, 0, 0, ONE), (3, 0, ONE, 0), (3, 1, 0, TWO)
+    for journal in (
+            record(0, *up), record(1, *up), record(2, *up),
+            record(0, *up) + record(1, *beside), record(1, *beside) + record(0, *up), record(0, *up) + record(0, *beside),
+            record(1, *up) + record(0, *down) + record(1, *up),                       # each blocks the other
+            record(0, *beside) + record(0, *up) + record(1, *down) + record(1, *up),  # bench 1 frees bench 0
+            record(0, *up) + record(2, *up) + record(1, 3, 0, 0, TWO, length=12),     # nobody's is no hindrance, but a wrong length is
+            record(0, *up) + record(1, 2, 0, 0, ONE) + record(1, *beside),            # another tag is no hindrance
+            record(0, *beside) + record(1, 1, 0, 4, 5) + record(0, *up) + record(1, 2, 0, make.NONE, 7),
+            record(0, *up, length=12), record(0, 4, 0, 0, ONE), record(0, 3, 12, 0, ONE), record(0, 3, 0, TWO, 0), record(0, 3, 0, 1, ONE)):
+        f = len(journal) // RECORD
+        for call in (UNDO, PUT_BACK):
+            for bench in (0, 1, 2, make.NONE):
+                yield case(call, floor, journal, f=f, bench=bench)
+            yield case(call, floor, journal + record(0, *up) + b"rest", f=f)
+            yield case(call, floor, journal, f=f + 1)
+            yield case(call, floor, journal, f=f - 1, bench=1)
+    painted = make.changed(floor, struct.unpack_from("<I", floor, 88)[0], 5)
+    for journal in (record(0, 1, 0, 4, 5) + record(1, *beside), record(1, 1, 0, 3, 5) + record(0, *up) + record(0, 1, 0, 5, 5)):
+        for call, bench in ((UNDO, 0), (UNDO, 1), (PUT_BACK, 0), (PUT_BACK, 1)):
+            yield case(call, painted, journal, f=len(journal) // RECORD, bench=bench)
+
+
 def cases():
     floors = {name: data for name, _, data, _ in make.samples() if len(data) < 8192}
     for name, data in floors.items():
@@ -46,34 +102,37 @@ def cases():
         yield case(REWRITE, data)
         yield case(QUERY, data, a=32, b=32)
         yield case(CHECK, data, LAYOUTS[0])
-        yield case(PUT_BACK, data, bytes(15))
+        yield case(PAINT, data, bytes(2 * RECORD), a=0, b=5)
+        for moves in VISITS:
+            yield case(PUT_BACK, data, bytes(8 * RECORD), bytes(x for move in moves for x in move))
     for name in ("triangle", "square", "hole", "shuffled", "mixed", "linked"):
         data = floors[name]
         for a, b in ((0, 0), (64, 0), (-1, 5), (96, 96), (65537, 0)):
             yield case(QUERY, data, a=a, b=b, lie=a & 31)
-        for journal in (bytes(14), bytes(15), bytes(75)):
-            yield case(PAINT, data, journal, a=0, b=5)
-            yield case(LINK, data, journal, a=1, b=63)
-            yield case(NUDGE, data, journal, a=11, b=-640)
+        for journal in (bytes(2 * RECORD - 1), bytes(2 * RECORD), bytes(5 * RECORD)):
+            for bench in (0, 1, 2):
+                yield case(PAINT, data, journal, bench=bench, a=0, b=5)
+                yield case(LINK, data, journal, bench=bench, a=1, b=63)
+                yield case(NUDGE, data, journal, bench=bench, a=11, b=-640)
         edits = ((PAINT, 0, 5), (PAINT, 0, 3), (LINK, 0, 9), (LINK, 0, -1), (LINK, 1, 2), (NUDGE, 0, 640), (NUDGE, 0, -640), (NUDGE, 1, 1))
         for call, a, b in edits:
             for other in edits:
-                yield case(call, data, bytes(30), second_edit(*other), a=a, b=b)
-        yield case(PAINT, data, bytes(30), f=2, k=1, a=0, b=7)
-        yield case(PAINT, data, bytes(30), f=2, k=1, a=0, b=5)
-        yield case(NUDGE, make.changed(data, 12, 0x80000000), bytes(15), a=0, b=0)
-        yield case(NUDGE, make.changed(data, 12, 0x80000000), bytes(15), a=0, b=1)
+                yield case(call, data, bytes(2 * RECORD), second_edit(*other, 1), a=a, b=b)
+                yield case(call, data, bytes(4 * RECORD), second_edit(*other, 0), a=a, b=b)
+                yield case(call, data, bytes(4 * RECORD), second_edit(*other, 0), bench=1, a=a, b=b)
+        yield case(PAINT, data, bytes(2 * RECORD), f=1, a=0, b=7)
+        yield case(PAINT, data, bytes(2 * RECORD), f=3, a=0, b=5)
+        yield case(PAINT, data, bytes(2 * RECORD), a=2, b=5)
+        yield case(LINK, data, bytes(2 * RECORD), a=0, b=64)
+        yield case(NUDGE, data, bytes(2 * RECORD), a=0, b=641)
+        yield from halves(data)
+        yield case(NUDGE, make.changed(data, 12, 0x80000000), bytes(2 * RECORD), a=0, b=0)
+        yield case(NUDGE, make.changed(data, 12, 0x80000000), bytes(2 * RECORD), a=0, b=1)
         yield case(READ, data, work=16384)
         yield case(READ, data, work=65535)
         yield case(READ, data, work=70000, lie=9)
         yield case(REWRITE, data, out=len(data) - 1)
-        journal = record(1, 0, 4, 5) + record(2, 0, make.NONE, 7) + record(3, 0, 0, 0x3F800000)
-        edited = make.changed(data, 12, 0x3F800000)
-        for call in (UNDO, REDO, PUT_BACK):
-            yield case(call, edited, journal, f=3, k=3)
-            yield case(call, data, journal, f=3, k=2)
-            yield case(call, data, journal, f=3, k=0)
-            yield case(call, data, record(3, 0, 0, 0) * 3, f=3, k=2)
+        yield from taken_out(data)
     for text in LAYOUTS:
         yield case(LAYOUT, text)
         yield case(LAYOUT, text, lie=0b0110110)

@@ -75,14 +75,13 @@ pub struct Point {
     pub visited: u32,
 }
 
-/// The answer of every journal call: f records kept, cursor k.
+/// The answer of every journal call: f records are kept.
 #[repr(C)]
 #[derive(Clone, Copy, Debug, Default, PartialEq, Eq)]
 pub struct Session {
     pub number: u32,
     pub place: u32,
     pub f: u32,
-    pub k: u32,
 }
 
 /// A room's row of 64 marks and the number of rooms seen.
@@ -123,7 +122,7 @@ fields! {
     Floor: number place faces walkable edges perimeters;
     Form: number place length;
     Point: number place found face visited;
-    Session: number place f k;
+    Session: number place f;
     Row: number place row seen;
     CaptionAt: number house start length;
 }

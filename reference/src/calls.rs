@@ -3,10 +3,10 @@
 use crate::answer::{Answer, CaptionAt, Floor, Form, Point, Row, Session};
 use crate::{caption, floor, form, journal, layout, links, query, sight};
 
-/// An edit: floor, journal, f, k, place, and what to write there as 32 bits.
+/// An edit: floor, journal, f, bench, place, and what to write there as 32 bits.
 pub type Edit = fn(&mut [u8], &mut [u8], u32, u32, u32, u32) -> Session;
-/// A step through the journal: floor, journal, f, k. The journal is lent, but must not change.
-pub type Step = fn(&mut [u8], &mut [u8], u32, u32) -> Session;
+/// Records taken out again, by an undo or a put-back: floor, journal, f, bench.
+pub type TakeOut = fn(&mut [u8], &mut [u8], u32, u32) -> Session;
 
 /// A sight text renamed: layout, VIS, room, name, output.
 pub type SightRename = fn(&[u8], &[u8], u32, &[u8], &mut [u8]) -> Form;
@@ -21,9 +21,8 @@ pub struct Calls {
     pub paint: Edit,
     pub link: Edit,
     pub nudge: Edit,
-    pub undo: Step,
-    pub redo: Step,
-    pub put_back: Step,
+    pub undo: TakeOut,
+    pub put_back: TakeOut,
     pub layout_rewrite: fn(&[u8], &mut [u8]) -> Form,
     pub layout_rename: fn(&[u8], u32, &[u8], &mut [u8]) -> Form,
     pub sight_rewrite: fn(&[u8], &[u8], &mut [u8]) -> Form,
@@ -40,13 +39,14 @@ pub const REFERENCE: Calls = Calls {
     rewrite: form::rewrite,
     query: query::query,
     paint: journal::paint,
-    link: |floor, journal, f, k, entry, to| journal::link(floor, journal, f, k, entry, to as i32),
-    nudge: |floor, journal, f, k, place, step| {
-        journal::nudge(floor, journal, f, k, place, step as i32)
+    link: |floor, journal, f, bench, entry, to| {
+        journal::link(floor, journal, f, bench, entry, to as i32)
     },
-    undo: |floor, journal, f, k| journal::undo(floor, journal, f, k),
-    redo: |floor, journal, f, k| journal::redo(floor, journal, f, k),
-    put_back: |floor, journal, f, k| journal::put_back(floor, journal, f, k),
+    nudge: |floor, journal, f, bench, place, step| {
+        journal::nudge(floor, journal, f, bench, place, step as i32)
+    },
+    undo: journal::undo,
+    put_back: journal::put_back,
     layout_rewrite: layout::rewrite,
     layout_rename: layout::rename,
     sight_rewrite: sight::rewrite,
@@ -78,15 +78,14 @@ mod engine {
         fn wp_read(bytes: Bytes, n: usize, work: Lent, m: usize) -> Floor;
         fn wp_rewrite(bytes: Bytes, n: usize, work: Lent, m: usize, out: Lent, o: usize) -> Form;
         fn wp_query(bytes: Bytes, n: usize, work: Lent, m: usize, x: i32, y: i32) -> Point;
-        fn wp_paint(floor: Lent, n: usize, journal: Lent, m: usize, f: u32, k: u32,
+        fn wp_paint(floor: Lent, n: usize, journal: Lent, m: usize, f: u32, bench: u32,
             face: u32, material: u32) -> Session;
-        fn wp_link(floor: Lent, n: usize, journal: Lent, m: usize, f: u32, k: u32,
+        fn wp_link(floor: Lent, n: usize, journal: Lent, m: usize, f: u32, bench: u32,
             entry: u32, transition: i32) -> Session;
-        fn wp_nudge(floor: Lent, n: usize, journal: Lent, m: usize, f: u32, k: u32,
+        fn wp_nudge(floor: Lent, n: usize, journal: Lent, m: usize, f: u32, bench: u32,
             place: u32, step: i32) -> Session;
-        fn wp_undo(floor: Lent, n: usize, journal: Lent, m: usize, f: u32, k: u32) -> Session;
-        fn wp_redo(floor: Lent, n: usize, journal: Lent, m: usize, f: u32, k: u32) -> Session;
-        fn wp_put_back(floor: Lent, n: usize, journal: Lent, m: usize, f: u32, k: u32) -> Session;
+        fn wp_undo(floor: Lent, n: usize, journal: Lent, m: usize, f: u32, bench: u32) -> Session;
+        fn wp_put_back(floor: Lent, n: usize, journal: Lent, m: usize, f: u32, bench: u32) -> Session;
         fn wp_layout_rewrite(text: Bytes, n: usize, out: Lent, o: usize) -> Form;
         fn wp_layout_rename(text: Bytes, n: usize, room: u32, name: Bytes, m: usize,
             out: Lent, o: usize) -> Form;
@@ -108,19 +107,20 @@ mod engine {
             wp_rewrite(b.as_ptr(), b.len(), w.as_mut_ptr(), w.len(), o.as_mut_ptr(), o.len())
         },
         query: |b, w, x, y| unsafe { wp_query(b.as_ptr(), b.len(), w.as_mut_ptr(), w.len(), x, y) },
-        paint: |b, j, f, k, face, material| unsafe {
-            wp_paint(b.as_mut_ptr(), b.len(), j.as_mut_ptr(), j.len(), f, k, face, material)
+        paint: |b, j, f, bench, face, material| unsafe {
+            wp_paint(b.as_mut_ptr(), b.len(), j.as_mut_ptr(), j.len(), f, bench, face, material)
         },
-        link: |b, j, f, k, entry, to| unsafe {
-            wp_link(b.as_mut_ptr(), b.len(), j.as_mut_ptr(), j.len(), f, k, entry, to as i32)
+        link: |b, j, f, bench, entry, to| unsafe {
+            wp_link(b.as_mut_ptr(), b.len(), j.as_mut_ptr(), j.len(), f, bench, entry, to as i32)
         },
-        nudge: |b, j, f, k, place, step| unsafe {
-            wp_nudge(b.as_mut_ptr(), b.len(), j.as_mut_ptr(), j.len(), f, k, place, step as i32)
+        nudge: |b, j, f, bench, place, step| unsafe {
+            wp_nudge(b.as_mut_ptr(), b.len(), j.as_mut_ptr(), j.len(), f, bench, place, step as i32)
         },
-        undo: |b, j, f, k| unsafe { wp_undo(b.as_mut_ptr(), b.len(), j.as_mut_ptr(), j.len(), f, k) },
-        redo: |b, j, f, k| unsafe { wp_redo(b.as_mut_ptr(), b.len(), j.as_mut_ptr(), j.len(), f, k) },
-        put_back: |b, j, f, k| unsafe {
-            wp_put_back(b.as_mut_ptr(), b.len(), j.as_mut_ptr(), j.len(), f, k)
+        undo: |b, j, f, bench| unsafe {
+            wp_undo(b.as_mut_ptr(), b.len(), j.as_mut_ptr(), j.len(), f, bench)
+        },
+        put_back: |b, j, f, bench| unsafe {
+            wp_put_back(b.as_mut_ptr(), b.len(), j.as_mut_ptr(), j.len(), f, bench)
         },
         layout_rewrite: |t, o| unsafe {
             wp_layout_rewrite(t.as_ptr(), t.len(), o.as_mut_ptr(), o.len())

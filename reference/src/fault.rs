@@ -8,8 +8,6 @@ use std::cell::Cell;
 pub enum Fault {
     /// A nudge that leaves -0 as it is.
     MinusZero,
-    /// A journal that is called full by f instead of k.
-    FullByF,
     /// Children that count from 1.
     ChildrenFromOne,
     /// A tree of 65 steps that passes.
@@ -26,8 +24,6 @@ pub enum Fault {
     BorderLeftOut,
     /// Names that differ in letter case taken for different names.
     CaseCounts,
-    /// A stopped put-back that answers k as handed in.
-    StoppedPutBack,
     /// Work memory left as it was.
     WorkKept,
     /// Work memory of the old size that passes, and so much of it zero on return.
@@ -42,12 +38,29 @@ pub enum Fault {
     RecordOnly,
     /// A paint that writes eight bytes, the next face's material too.
     WidePaint,
+    /// An undo that takes out the other bench's latest record where it has one.
+    OtherBenchTakenOut,
+    /// An undo that takes out the latest record of all.
+    LatestOfAll,
+    /// An undo that does not ask whether the other bench has changed the field since.
+    BlockedNotAsked,
+    /// A bench's half that is counted by f, so that the other bench uses it up.
+    HalfByF,
+    /// A record taken out without moving later ones down.
+    HoleLeft,
+    /// Later records moved down one byte too little.
+    OneByteOff,
+    /// A put-back that leaves no record of either bench.
+    PutBackClearsF,
+    /// A stopped put-back that answers f as handed in.
+    StoppedPutBack,
+    /// A bench 2 that passes.
+    BenchTwo,
 }
 
 /// All faults with the names by which they are asked for.
-pub const FAULTS: [(&str, Fault); 18] = [
+pub const FAULTS: [(&str, Fault); 25] = [
     ("minus-zero", Fault::MinusZero),
-    ("full-by-f", Fault::FullByF),
     ("children-from-one", Fault::ChildrenFromOne),
     ("depth-65", Fault::DepthSixtyFive),
     ("same-way", Fault::SameWay),
@@ -56,7 +69,6 @@ pub const FAULTS: [(&str, Fault); 18] = [
     ("all-visited", Fault::AllVisited),
     ("border-left-out", Fault::BorderLeftOut),
     ("case-counts", Fault::CaseCounts),
-    ("stopped-put-back", Fault::StoppedPutBack),
     ("work-kept", Fault::WorkKept),
     ("old-work", Fault::OldWork),
     ("any-partner", Fault::AnyPartner),
@@ -64,6 +76,15 @@ pub const FAULTS: [(&str, Fault); 18] = [
     ("root-of-none", Fault::RootOfNone),
     ("record-only", Fault::RecordOnly),
     ("wide-paint", Fault::WidePaint),
+    ("other-bench-taken-out", Fault::OtherBenchTakenOut),
+    ("latest-of-all", Fault::LatestOfAll),
+    ("blocked-not-asked", Fault::BlockedNotAsked),
+    ("half-by-f", Fault::HalfByF),
+    ("hole-left", Fault::HoleLeft),
+    ("one-byte-off", Fault::OneByteOff),
+    ("put-back-clears-f", Fault::PutBackClearsF),
+    ("stopped-put-back", Fault::StoppedPutBack),
+    ("bench-two", Fault::BenchTwo),
 ];
 
 thread_local! {

@@ -2,6 +2,8 @@
 
 /// The greatest scaled number on the grid; the least is its negative.
 pub const FARTHEST: i64 = 65_536;
+/// The bits of negative zero, which stands on the grid but is never written by a nudge.
+pub const MINUS_ZERO: u32 = 0x8000_0000;
 
 /// 64 times the float with these bits, if that is a whole number within the grid.
 /// 64 times any f32 is exact in f64, so nothing is rounded. Negative zero gives zero.

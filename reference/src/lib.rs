@@ -4,6 +4,7 @@
 
 pub mod answer;
 pub mod bench;
+pub mod benches;
 pub mod calls;
 pub mod caption;
 pub mod compare;
@@ -19,5 +20,6 @@ pub mod order;
 pub mod query;
 pub mod sight;
 pub mod sorted;
+pub mod tally;
 pub mod text;
 pub mod words;

@@ -1,6 +1,6 @@
-//! Edits and their order: what request M-107 says of two edits, judged on what one side answered and
-//! on the floors it left. Neither a journal nor the other side is looked at, so that a mistake that
-//! both sides share is noticed too.
+//! Edits and their order: what request M-107 says of two edits, by any benches, judged on what one side
+//! answered and on the floors it left. Neither a journal nor the other side is looked at, so that a
+//! mistake that both sides share is noticed too.
 
 use crate::compare::{first_difference, Done, GUARD};
 use crate::generate::edit_pairs::Pair;
@@ -53,7 +53,7 @@ impl<'a> Runs<'a> {
 
     /// Whether both edits were accepted one after the other in this order.
     fn accepted(&self, order: usize) -> bool {
-        self.orders[order].iter().all(|done| number(done) == 0)
+        self.orders[order].iter().all(|done| done.number() == 0)
     }
 
     /// Whether that is so in both orders.
@@ -72,11 +72,6 @@ impl<'a> Runs<'a> {
     }
 }
 
-/// The number that a call answered; 0 is accepted.
-fn number(done: &Done) -> u64 {
-    done.fields[0].1
-}
-
 /// The floor as a call left it, guards included.
 fn floor(done: &Done) -> &[u8] {
     &done.memory[0].1
@@ -84,8 +79,8 @@ fn floor(done: &Done) -> &[u8] {
 
 /// Why two calls are not both accepted with the same floor left; nothing if they are.
 fn unlike(one: &Done, other: &Done) -> Option<String> {
-    if let Some(refused) = [one, other].into_iter().find(|done| number(done) != 0) {
-        let (call, number) = (refused.call, number(refused));
+    if let Some(refused) = [one, other].into_iter().find(|done| done.number() != 0) {
+        let (call, number) = (refused.call.name(), refused.number());
         return Some(format!("a {call} is refused with {number}"));
     }
     let at = first_difference(floor(one), floor(other))?;
@@ -128,7 +123,7 @@ fn say(sentence: &str, how: String) -> String {
 fn either_order(pair: &Pair, runs: &Runs) -> Option<String> {
     let each_alone = [0, 1]
         .iter()
-        .all(|&order| number(runs.later_alone(order)) == 0);
+        .all(|&order| runs.later_alone(order).number() == 0);
     if !each_alone || !pair.has_room_for_both() {
         return None;
     }
@@ -164,7 +159,7 @@ fn sum(pair: &Pair, runs: &Runs, order: usize) -> Option<String> {
         let how = unlike(runs.later(order), done)?;
         return Some(say(BY_THE_SUM, how));
     }
-    let (number, place) = (number(done), done.fields[1].1);
+    let (number, place) = (done.number(), done.fields[1].1);
     let refused = number == REFUSED_STEP && place == u64::from(edit.place);
     (!refused).then(|| say(NO_STEP, format!("the answer is {number} at {place}")))
 }
@@ -198,6 +193,8 @@ pub struct Counts {
     pub in_one_order: usize,
     pub no_step: usize,
     pub at_zero: usize,
+    /// Of all those pairs: by two benches.
+    pub by_two_benches: usize,
 }
 
 impl Counts {
@@ -205,17 +202,19 @@ impl Counts {
     pub fn add(&mut self, pair: &Pair, all: &[Done]) {
         let runs = Runs::of(all);
         self.pairs += 1;
-        if !pair.is_of_one_field() {
-            self.different_fields += usize::from(runs.accepted_in_both());
-            return;
-        }
-        let Some(order) = (0..2).find(|&order| runs.accepted(order)) else {
+        let order = match pair.is_of_one_field() {
+            true => (0..2).find(|&order| runs.accepted(order)),
+            false => runs.accepted_in_both().then_some(0),
+        };
+        let Some(order) = order else {
             return;
         };
-        match pair.edits[0].tag {
-            PAINT => self.two_paints += 1,
-            LINK => self.two_links += 1,
-            _ => self.add_nudges(pair, &runs, order),
+        self.by_two_benches += usize::from(!pair.is_by_one_bench());
+        match (pair.is_of_one_field(), pair.edits[0].tag) {
+            (false, _) => self.different_fields += 1,
+            (true, PAINT) => self.two_paints += 1,
+            (true, LINK) => self.two_links += 1,
+            (true, _) => self.add_nudges(pair, &runs, order),
         }
     }
 
@@ -235,7 +234,7 @@ impl Counts {
         format!(
             "pairs of edits {}: of different fields accepted in both orders {}; of one field accepted \
              one after the other: paints {}, links {}, nudges {}, of which in one order alone {}, with \
-             a sum that is no step {}, ended at a zero {}",
+             a sum that is no step {}, ended at a zero {}; of all these by two benches {}",
             self.pairs,
             self.different_fields,
             self.two_paints,
@@ -243,7 +242,8 @@ impl Counts {
             self.two_nudges,
             self.in_one_order,
             self.no_step,
-            self.at_zero
+            self.at_zero,
+            self.by_two_benches
         )
     }
 }

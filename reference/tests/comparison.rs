@@ -16,12 +16,8 @@ use reference::generate::pair_damage::{forget_or_invent, repeat_last};
 use reference::generate::random::Random;
 use reference::generate::shapes::{crowded, large, shape, Shape, SHAPES};
 use reference::generate::texts;
+use reference::tally::numbers;
 use reference::{layout, sight};
-
-const HONEST: Side = Side {
-    calls: REFERENCE,
-    fault: None,
-};
 
 #[test]
 fn generated_floors_are_accepted_and_their_forms_too() {
@@ -81,7 +77,7 @@ fn every_refusal_occurs() {
         |_| (),
         |number, found| panic!("case {number}: {found:?}"),
     );
-    for number in 0..=42 {
+    for number in numbers() {
         assert!(
             tally.answered(number) >= 20,
             "{number}: {}",

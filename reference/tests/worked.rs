@@ -1,9 +1,9 @@
-//! The checked examples W1 to W12 of 01 and its whole case of a layout.
+//! The checked examples W1 to W12 of 01, as 02 changes them, and its whole case of a layout.
 
 mod common;
 
 use common::*;
-use reference::answer::{Floor, Session};
+use reference::answer::Floor;
 use reference::floor::tables::Tables;
 use reference::form;
 use reference::generate::model::Model;
@@ -75,20 +75,12 @@ fn w8_a_triangle_holds_its_border_but_nothing_beyond() {
 #[test]
 fn w9_a_paint_writes_this_record() {
     let mut floor = triangle().in_order();
-    let mut journal = [0xEE; 20];
+    let mut journal = [0xEE; 37];
     let answer = paint(&mut floor, &mut journal, 0, 0, 0, 5);
-    assert_eq!(
-        answer,
-        Session {
-            number: 0,
-            place: 0,
-            f: 1,
-            k: 1
-        }
-    );
-    let record = [1, 0x0C, 0, 0, 0, 0, 0, 4, 0, 0, 0, 5, 0, 0, 0];
-    assert_eq!(journal[..15], record);
-    assert_eq!(journal[15..], [0xEE; 5]);
+    assert_eq!(answer, session(0, 0, 1));
+    let record = [1, 0x0D, 0, 0, 0, 0, 0, 0, 4, 0, 0, 0, 5, 0, 0, 0];
+    assert_eq!(journal[..16], record);
+    assert_eq!(journal[16..], [0xEE; 21]);
     let materials = Tables::open(&floor)
         .unwrap()
         .bytes_of(reference::floor::tables::Table::Materials);
@@ -99,16 +91,8 @@ fn w9_a_paint_writes_this_record() {
 fn w10_a_walkable_material_stays_walkable() {
     let mut floor = triangle().in_order();
     let before = floor.clone();
-    let answer = paint(&mut floor, &mut [0; 15], 0, 0, 0, 7);
-    assert_eq!(
-        answer,
-        Session {
-            number: 22,
-            place: 0,
-            f: 0,
-            k: 0
-        }
-    );
+    let answer = paint(&mut floor, &mut [0; 32], 0, 0, 0, 7);
+    assert_eq!(answer, session(22, 0, 0));
     assert_eq!(floor, before);
 }
 
@@ -117,28 +101,29 @@ fn w11_one_and_a_half_nudged_by_one() {
     let mut model = triangle();
     model.floats[3] = 1.5_f32.to_bits();
     let mut floor = model.in_order();
-    let answer = nudge(&mut floor, &mut [0; 15], 0, 0, 3, 1);
+    let answer = nudge(&mut floor, &mut [0; 32], 0, 0, 3, 1);
     assert_eq!(answer.number, 0);
     assert_eq!(word_at(&floor, 24), 0x3FC2_0000);
     assert_eq!(f32::from_bits(0x3FC2_0000), 1.515625);
 }
 
 #[test]
-fn w12_a_journal_of_14_bytes_is_full_and_one_of_15_holds_one_edit() {
-    let mut floor = triangle().in_order();
-    assert_eq!(paint(&mut floor, &mut [0; 14], 0, 0, 0, 5).number, 25);
-    let mut journal = [0; 15];
-    assert_eq!(paint(&mut floor, &mut journal, 0, 0, 0, 5).number, 0);
-    let second = paint(&mut floor, &mut journal, 1, 1, 0, 5);
-    assert_eq!(
-        second,
-        Session {
-            number: 25,
-            place: 0,
-            f: 1,
-            k: 1
+fn w12_a_journal_of_31_bytes_is_full_and_one_of_32_holds_one_edit_for_each_bench() {
+    for first in [0, 1] {
+        let mut floor = triangle().in_order();
+        let full = paint(&mut floor, &mut [0; 31], 0, first, 0, 5);
+        assert_eq!(full, session(25, 0, 0));
+        let mut journal = [0; 32];
+        for (f, bench, answer) in [
+            (0, first, session(0, 0, 1)),
+            (1, first, session(25, 0, 1)),
+            (1, 1 - first, session(0, 0, 2)),
+            (2, first, session(25, 0, 2)),
+            (2, 1 - first, session(25, 0, 2)),
+        ] {
+            assert_eq!(paint(&mut floor, &mut journal, f, bench, 0, 5), answer);
         }
-    );
+    }
 }
 
 #[test]

@@ -14,8 +14,9 @@ ghost use Rattle.floor.specs.Reader.{readerAnswer, readerMemory};
 ghost use Rattle.floor.specs.Rewrite.{rewriteAnswer, rewriteMemory};
 ghost use Rattle.query.specs.Points.{pointAnswer};
 ghost use Rattle.laying.specs.Area.{areaFloor};
-ghost use Rattle.journal.specs.Wish.{paintWish, linkWish, nudgeWish};
-ghost use Rattle.journal.specs.Step.{lent, left, editStep, undoStep, redoStep, putBackStep};
+ghost use Rattle.journal.specs.Wish.{paint, link, nudge};
+ghost use Rattle.journal.specs.Step.{lent, left};
+ghost use Rattle.journal.specs.Calls.{edit, undo, putBack, step};
 ghost use Rattle.layoutform.specs.Form.{partsOf, formText};
 ghost use Rattle.layoutform.specs.Rewrite.{rewriteVerdict, renameVerdict, renamedForm};
 ghost use Rattle.caption.specs.Caption.{captionAt};
@@ -57,14 +58,14 @@ pub extern "C" fn wp_paint(
     floor: &mut [u8],
     journal: &mut [u8],
     f: u32,
-    k: u32,
+    bench: u32,
     face: u32,
     material: u32,
 ) -> Session
     ensures { λ r. ⌜ left r (now (floor .exit)) (now (journal .exit))
-        ≡ editStep areaFloor (paintWish face material) (lent (now (floor .entry)) (now (journal .entry)) f k) ⌝ }
+        ≡ step areaFloor (edit bench (paint face material)) (lent (now (floor .entry)) (now (journal .entry)) f) ⌝ }
 {
-    journal::paint(floor, journal, f, k, face, material)
+    journal::paint(floor, journal, f, bench, face, material)
 }
 
 // Another transition for an edge entry.
@@ -73,14 +74,14 @@ pub extern "C" fn wp_link(
     floor: &mut [u8],
     journal: &mut [u8],
     f: u32,
-    k: u32,
+    bench: u32,
     entry: u32,
     transition: i32,
 ) -> Session
     ensures { λ r. ⌜ left r (now (floor .exit)) (now (journal .exit))
-        ≡ editStep areaFloor (linkWish entry transition) (lent (now (floor .entry)) (now (journal .entry)) f k) ⌝ }
+        ≡ step areaFloor (edit bench (link entry transition)) (lent (now (floor .entry)) (now (journal .entry)) f) ⌝ }
 {
-    journal::link(floor, journal, f, k, entry, transition)
+    journal::link(floor, journal, f, bench, entry, transition)
 }
 
 // A float of the four use positions moved by so many sixty-fourths.
@@ -89,41 +90,32 @@ pub extern "C" fn wp_nudge(
     floor: &mut [u8],
     journal: &mut [u8],
     f: u32,
-    k: u32,
+    bench: u32,
     place: u32,
-    step: i32,
+    by: i32,
 ) -> Session
     ensures { λ r. ⌜ left r (now (floor .exit)) (now (journal .exit))
-        ≡ editStep areaFloor (nudgeWish place step) (lent (now (floor .entry)) (now (journal .entry)) f k) ⌝ }
+        ≡ step areaFloor (edit bench (nudge place by)) (lent (now (floor .entry)) (now (journal .entry)) f) ⌝ }
 {
-    journal::nudge(floor, journal, f, k, place, step)
+    journal::nudge(floor, journal, f, bench, place, by)
 }
 
-// The record before the cursor taken back.
+// The bench's latest record undone and taken out.
 #[no_mangle]
-pub extern "C" fn wp_undo(floor: &mut [u8], journal: &[u8], f: u32, k: u32) -> Session
-    ensures { λ r. ⌜ left r (now (floor .exit)) (now (journal .entry))
-        ≡ undoStep areaFloor (lent (now (floor .entry)) (now (journal .entry)) f k) ⌝ }
+pub extern "C" fn wp_undo(floor: &mut [u8], journal: &mut [u8], f: u32, bench: u32) -> Session
+    ensures { λ r. ⌜ left r (now (floor .exit)) (now (journal .exit))
+        ≡ step areaFloor (undo bench) (lent (now (floor .entry)) (now (journal .entry)) f) ⌝ }
 {
-    journal::undo(floor, journal, f, k)
+    journal::undo(floor, journal, f, bench)
 }
 
-// The record at the cursor laid on again.
+// All of the bench's records undone and taken out.
 #[no_mangle]
-pub extern "C" fn wp_redo(floor: &mut [u8], journal: &[u8], f: u32, k: u32) -> Session
-    ensures { λ r. ⌜ left r (now (floor .exit)) (now (journal .entry))
-        ≡ redoStep areaFloor (lent (now (floor .entry)) (now (journal .entry)) f k) ⌝ }
+pub extern "C" fn wp_put_back(floor: &mut [u8], journal: &mut [u8], f: u32, bench: u32) -> Session
+    ensures { λ r. ⌜ left r (now (floor .exit)) (now (journal .exit))
+        ≡ step areaFloor (putBack bench) (lent (now (floor .entry)) (now (journal .entry)) f) ⌝ }
 {
-    journal::redo(floor, journal, f, k)
-}
-
-// The opening floor put back.
-#[no_mangle]
-pub extern "C" fn wp_put_back(floor: &mut [u8], journal: &[u8], f: u32, k: u32) -> Session
-    ensures { λ r. ⌜ left r (now (floor .exit)) (now (journal .entry))
-        ≡ putBackStep areaFloor (lent (now (floor .entry)) (now (journal .entry)) f k) ⌝ }
-{
-    journal::put_back(floor, journal, f, k)
+    journal::put_back(floor, journal, f, bench)
 }
 
 // A layout in its fixed form.

@@ -4,7 +4,7 @@ use mathlib.Core.Path.{_≡_, refl, sym, ap}
 use mathlib.Core.Logic.{_⊎_, inl, inr}
 use mathlib.Core.Bool.{true}
 use Prim.Native.Nat.{ℕ, _≤_, _<_}
-use mathlib.Core.List.{List}
+use mathlib.Core.List.{List, []}
 use native.Mathlib.Omega.{arith}
 use lib.ListN.{length}
 use lib.Dec.{leb}
@@ -34,7 +34,7 @@ use Rattle.laying.proofs.Area.{lay-right}
 use Rattle.journal.specs.Lawful.{Fits, Lawful}
 use Rattle.journal.specs.Step.{lent}
 use Rattle.journal.specs.Calls.{Call, run}
-use Rattle.journal.specs.Plain.{plainRun, empty}
+use Rattle.journal.specs.Plain.{plainRun}
 use Rattle.journal.specs.Demand.{Demand3}
 use Rattle.journal.specs.SoundFloor.{SoundFloor, AcceptedFloor}
 use Rattle.journal.proofs.Lawful.{fits-ways, area-lawful}
@@ -87,7 +87,7 @@ sound-lawful = area-lawful SoundFloor (λ fl a. a .bytes) (λ fl a. right-of fl 
 
 -- demand 3 for every sound floor, every journal and every run of calls
 pub demand3-sound : (opening journal : List ℕ) → SoundFloor opening → (cs : List Call)
-    → Demand3 areaFloor SoundFloor opening (length journal) (run areaFloor cs (lent opening journal 0 0)) (plainRun areaFloor opening (length journal) cs empty)
+    → Demand3 areaFloor SoundFloor opening (length journal) (run areaFloor cs (lent opening journal 0)) (plainRun areaFloor opening (length journal) cs [])
 demand3-sound opening journal a cs = demand3 areaFloor opening (length journal) SoundFloor sound-lawful a journal refl cs
 
 -- ---- the same in the reader's words
@@ -112,11 +112,11 @@ accepted-lawful =
 -- DEMAND 3 for every floor that the reader accepts, every journal and every run of calls: the floor that is left is one that the reader
 -- accepts
 pub demand3-accepted : (opening journal : List ℕ) (work : ℕ) → Bytes opening → readerVerdict opening work .number ≡ 0 → (cs : List Call)
-    → Demand3 areaFloor AcceptedFloor opening (length journal) (run areaFloor cs (lent opening journal 0 0)) (plainRun areaFloor opening (length journal) cs empty)
+    → Demand3 areaFloor AcceptedFloor opening (length journal) (run areaFloor cs (lent opening journal 0)) (plainRun areaFloor opening (length journal) cs [])
 demand3-accepted opening journal work y z cs =
     demand3 areaFloor opening (length journal) AcceptedFloor accepted-lawful (sound-read opening (read-sound opening work y z)) journal refl cs
 
 -- the reader's verdict on the floor that is left, with any work memory that is enough
 pub edited-accepted : (opening journal : List ℕ) (work : ℕ) → Bytes opening → readerVerdict opening work .number ≡ 0 → (cs : List Call)
-    → (room : ℕ) → workSize ≤ room → readerVerdict (run areaFloor cs (lent opening journal 0 0) .floor) room ≡ accepted
+    → (room : ℕ) → workSize ≤ room → readerVerdict (run areaFloor cs (lent opening journal 0) .floor) room ≡ accepted
 edited-accepted opening journal work y z cs room l = demand3-accepted opening journal work y z cs .accepted .read room l

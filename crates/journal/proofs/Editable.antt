@@ -2,7 +2,7 @@
 use mathlib.Core.Path.{_≡_, refl, ap}
 use mathlib.Core.Bool.{true}
 use Prim.Native.Nat.{ℕ, _+_, _*_, _<_}
-use mathlib.Core.List.{List}
+use mathlib.Core.List.{List, []}
 use native.Mathlib.Omega.{arith}
 use native.Mathlib.Decide.{ℕ-discrete}
 use lib.ListN.{length, getD}
@@ -21,7 +21,7 @@ use Rattle.laying.proofs.Area.{lay-right}
 use Rattle.journal.specs.Lawful.{Fits, Lawful}
 use Rattle.journal.specs.Step.{lent}
 use Rattle.journal.specs.Calls.{Call, run}
-use Rattle.journal.specs.Plain.{plainRun, empty}
+use Rattle.journal.specs.Plain.{plainRun}
 use Rattle.journal.specs.Demand.{Demand3}
 use Rattle.journal.specs.Editable.{Editable}
 use Rattle.journal.proofs.Lawful.{fits-ways, area-lawful}
@@ -82,5 +82,5 @@ editable-lawful = area-lawful Editable (λ fl a. a .bytes) (λ fl a. a .right) (
 
 -- demand 3 for every editable floor, every journal and every run of calls
 pub demand3-editable : (opening journal : List ℕ) → Editable opening → (cs : List Call)
-    → Demand3 areaFloor Editable opening (length journal) (run areaFloor cs (lent opening journal 0 0)) (plainRun areaFloor opening (length journal) cs empty)
+    → Demand3 areaFloor Editable opening (length journal) (run areaFloor cs (lent opening journal 0)) (plainRun areaFloor opening (length journal) cs [])
 demand3-editable opening journal a cs = demand3 areaFloor opening (length journal) Editable editable-lawful a journal refl cs

@@ -1,229 +1,243 @@
--- A call over bytes does what the plain list does, for every lawful kind of floor: one call, then a run. Assumes nothing.
+-- A bench's call over bytes does what the plain list does, for every lawful kind of floor: one call, then a run. Assumes nothing.
 use mathlib.Core.Path.{_≡_, refl, sym, ap, _∙_}
-use mathlib.Core.Bool.{cond}
-use Prim.Native.Nat.{ℕ, zero, suc, _+_, _-_, _*_, _≤_, _<_}
+use mathlib.Core.Bool.{_&&_}
+use Prim.Native.Nat.{ℕ, zero, suc, _-_, _*_, _≤_, _<_}
 use mathlib.Core.List.{List, [], _∷_, _++_}
 use native.Mathlib.Omega.{arith}
-use native.Mathlib.Nat.{le-trans}
 use native.Mathlib.Decide.{decLt, ℕ-discrete}
-use native.Mathlib.Numerals.{add-one, lt-of-le-of-ne}
-use lib.Dec.{eqb}
-use lib.ListN.{length, getD, take, length-append, List·getD-append}
-use lib.Seq.{take-all, length-take-le, getD-take, getD-at}
-use borrow.Author.Tests.{eq-eqb, ne-eqb}
-use Rattle.verdict.specs.Verdict.{accepted, refused, rule, _then_}
+use lib.Dec.{eqb, ltb}
+use lib.ListN.{length, length-append}
+use borrow.Author.Tests.{eq-eqb, ne-eqb, lt-ltb, le-ltb}
+use Rattle.verdict.specs.Verdict.{accepted, rule, _then_}
 use Rattle.verdict.specs.declared.Answer.{Answer}
 use Rattle.verdict.proofs.Bools.{decided}
-use Rattle.verdict.proofs.Verdict.{then-next, Proper, rule-proper, then-proper}
+use Rattle.verdict.proofs.Lists.{tally-same}
+use Rattle.verdict.proofs.Lowest.{any-same}
+use Rattle.verdict.proofs.Highest.{highest-same, highest-under}
+use Rattle.verdict.proofs.Verdict.{then-next, then-stop, met, then-proper}
 use Rattle.wire.specs.Bytes.{put}
 use Rattle.wire.proofs.Put.{length-put}
 use Rattle.record.specs.declared.Rec.{Rec}
-use Rattle.record.specs.Record.{size, flip, nothing, recordBytes, recordAt}
-use Rattle.laying.specs.Kind.{Kind, lay}
+use Rattle.record.specs.Record.{size, recordBytes}
 use Rattle.record.proofs.Records.{recordAt-put, recordAt-below}
-use Rattle.journal.specs.Wish.{Wish, wishOf}
-use Rattle.journal.specs.Lawful.{Lawful, Granted, Fits}
-use Rattle.journal.specs.Step.{State, Outcome, next, lent, mostRecords, refusal, unless, recordOf, edited, commonVerdict, rule21, editRules, editVerdict, editStep, undoVerdict, undoStep, redoVerdict, redoStep, unwind, putBackStep}
-use Rattle.journal.specs.Calls.{Call, edit, undo, redo, putBack, step, run}
-use Rattle.journal.specs.Replay.{layAll, Chain}
-use Rattle.journal.specs.Plain.{Plain, plain, empty, floorOf, plainEdit, plainVerdict, plainNext, plainStep, plainRun}
+use Rattle.laying.specs.Kind.{Kind, lay, fits}
+use Rattle.journal.specs.Wish.{Edit, wishOf}
+use Rattle.journal.specs.Lawful.{Lawful, Fits}
+use Rattle.holding.specs.Held.{listed, stored, isOf, sameField, other, held, latest, blocked}
+use Rattle.journal.specs.Step.{State, Outcome, next, lent, fitIn, half, rule45, commonVerdict, done, refusal, unless, recordOf, full, edited, editVerdict, editStep, undoRules, takenOut, outStep, undoStep, unwind, unwound, ended, putBackStep}
+use Rattle.journal.specs.Calls.{Call, edit, undo, putBack, step, run}
+use Rattle.journal.specs.Plain.{floorOf, heldBy, latestIn, blockedIn, plainUndoRules, plainUndo, plainUnwind, plainPutBack, plainEnd, plainVerdict, plainStep, plainRun}
 use Rattle.journal.specs.Demand.{verdictOf}
-use Rattle.journal.proofs.Laying.{fits-is, fits-sized, fits-flip, lay-flip}
-use Rattle.journal.proofs.Replays.{layAll-snoc, layAll-take, chain-none, chain-at, chain-take, chain-snoc, chain-keeps}
-use Rattle.journal.proofs.Steps.{unless-next, unless-stop, met-common, edit-met}
+use Rattle.journal.proofs.Replays.{layAll-snoc}
+use Rattle.journal.proofs.Laying.{fits-is, fits-sized}
+use Rattle.journal.proofs.Without.{length-more, listed-more, listed-last, length-without, listed-below, listed-above}
+use Rattle.journal.proofs.Could.{Could, few, could-edit, UndoMet, undo-met, latest-is, undo-out, could-undo}
+use Rattle.journal.proofs.Steps.{unless-next, unless-stop, fit-room, bench-met, met-bench, bench-proper, common-is, edit-proper}
+use Rattle.journal.proofs.PutBack.{undo-proper}
+use Rattle.journal.proofs.Sessions.{good, edit-made}
+use Rattle.holding.proofs.Shifts.{length-closed, stored-below, stored-above}
 
 -- the journal holds the list, and the list could have come about
-pub record Kept (K : Kind) (opening journal : List ℕ) (room : ℕ) (recs : List Rec) (at : ℕ) : Type 0 where
-  pub cursor : at ≤ length recs
-  pub few : length recs ≤ mostRecords
+pub record Kept (K : Kind) (opening journal : List ℕ) (room : ℕ) (rs : List Rec) : Type 0 where
+  pub could : Could K opening (fitIn room) rs
   pub long : length journal ≡ room
-  pub fitting : size * length recs ≤ room
-  pub stored : (i : ℕ) → i < length recs → recordAt journal (size * i) ≡ getD recs i nothing
-  pub chain : Chain (lay K) (Fits K) opening recs
+  pub stored : (i : ℕ) → i < length rs → stored journal i ≡ listed rs i
 
 -- the state that a plain list and a journal make
-abbrev pub stateOf : Kind → List ℕ → List ℕ → Plain → State
-stateOf K opening j p = lent (floorOf K opening p) j (length (p .recs)) (p .at)
+abbrev pub stateOf : Kind → List ℕ → List ℕ → List Rec → State
+stateOf K opening j rs = lent (floorOf K opening rs) j (length rs)
 
--- an outcome is what the plain list says: the number and place, the counters, the floor, and a journal that holds the list
-pub record Follows (K : Kind) (opening : List ℕ) (room : ℕ) (o : Outcome) (a : Answer) (p : Plain) : Type 0 where
+-- a state is what the plain list says: the counter, the floor, and a journal that holds the list
+pub record Ran (K : Kind) (opening : List ℕ) (room : ℕ) (s : State) (rs : List Rec) : Type 0 where
+  pub same : s ≡ stateOf K opening (s .journal) rs
+  pub kept : Kept K opening (s .journal) room rs
+
+-- so is an outcome, and its number and place are the plain list's
+pub record Follows (K : Kind) (opening : List ℕ) (room : ℕ) (o : Outcome) (a : Answer) (rs : List Rec) : Type 0 where
   pub verdict : verdictOf (o .answer) ≡ a
-  pub same : next o ≡ stateOf K opening (o .journal) p
-  pub kept : Kept K opening (o .journal) room (p .recs) (p .at)
+  pub ran : Ran K opening room (next o) rs
 
--- the same of a state
-pub record Ran (K : Kind) (opening : List ℕ) (room : ℕ) (s : State) (p : Plain) : Type 0 where
-  pub same : s ≡ stateOf K opening (s .journal) p
-  pub kept : Kept K opening (s .journal) room (p .recs) (p .at)
+-- ---- what a bench holds in the journal is what it holds in the list
 
--- where the verdict of an edit accepts, it accepts at 0
-edit-proper : (K : Kind) (w : Wish) (fl : List ℕ) (room k : ℕ) → Proper (editRules K w fl room k)
-unfolding editRules rule21
-edit-proper K w fl room k =
-    let e : 21 + w .tag ≡ suc (20 + w .tag) = omega arith in
-    then-proper _ _ (then-proper _ _ (rule-proper 20 _ (w .place)) (rw e (rule-proper (20 + w .tag) _ (w .place)))) (rule-proper 24 _ (w .place))
+module _ (j : List ℕ) (rs : List Rec) (same : (i : ℕ) → i < length rs → stored j i ≡ listed rs i) (bench : ℕ) where
+  pub held-same : held (stored j) (length rs) bench ≡ heldBy bench rs
+  unfolding held
+  held-same = tally-same (length rs) (λ i. isOf bench (stored j i)) (λ i. isOf bench (listed rs i)) (λ i l. ap (isOf bench) (same i l))
+
+  pub latest-same : latest (stored j) (length rs) bench ≡ latestIn bench rs
+  unfolding latest
+  latest-same = highest-same (length rs) (λ i. isOf bench (stored j i)) (λ i. isOf bench (listed rs i)) (λ i l. ap (isOf bench) (same i l))
+
+  pub blocked-same : blocked (stored j) (length rs) bench (latestIn bench rs) ≡ blockedIn bench rs
+  unfolding blocked
+  blocked-same =
+      let i = latestIn bench rs in
+      any-same (length rs) (λ x. ltb i x && isOf (other bench) (stored j x) && sameField (stored j i) (stored j x)) (λ x. ltb i x && isOf (other bench) (listed rs x) && sameField (listed rs i) (listed rs x))
+      (λ x l. rw (same x l, same i (unfold latest in highest-under (length rs) (λ y. isOf bench (listed rs y)) x l)))
 
 module _ (K : Kind) (opening : List ℕ) (room : ℕ) (A : List ℕ → Type 0) (L : Lawful K A) (acc : A opening) where
-  -- every floor on the way is A
-  pub good : (recs : List Rec) (k : ℕ) → Chain (lay K) (Fits K) opening recs → A (layAll (lay K) opening (take k recs))
-  good recs k c = chain-keeps (lay K) (Fits K) A (L .keeps) (take k recs) opening (chain-take (lay K) (Fits K) recs k opening c) acc
+  module _ (j : List ℕ) (rs : List Rec) (k : Kept K opening j room rs) where
+    -- 1 to 6 and 28 never refuse
+    common-never : (bench place : ℕ) → commonVerdict K bench place (stateOf K opening j rs) ≡ rule45 bench (length rs)
+    common-never bench place =
+        common-is K bench place (stateOf K opening j rs) (L .right _ (good K opening room A L acc rs (k .could))) (rw (k .long) (few K opening (fitIn room) rs (k .could)))
 
-  -- 1 to 6 and 28 never refuse
-  common-never : (j : List ℕ) (recs : List Rec) (at place : ℕ) → Kept K opening j room recs at → commonVerdict K (stateOf K opening j (plain recs at)) place ≡ accepted
-  common-never j recs at place k =
-      met-common K (stateOf K opening j (plain recs at)) place (record {
-        right = L .right _ (good recs at (k .chain));
-        good = record { cursor = k .cursor; few = k .few; held = rw (k .long) (k .fitting) };
-      })
+    -- a refused call
+    refused-follows : (a : Answer) → Follows K opening room (refusal a (stateOf K opening j rs)) a rs
+    refused-follows a = record { verdict = refl; ran = record { same = refl; kept = k } }
 
-  -- the last record laid on can be taken back, and that leaves the floor before it
-  module _ (recs : List Rec) (i : ℕ) (c : Chain (lay K) (Fits K) opening recs) (h : i < length recs) where
-    back-fits : Fits K (layAll (lay K) opening (take (suc i) recs)) (flip (getD recs i nothing))
-    back-fits =
-        rw (layAll-take (lay K) recs i nothing opening h)
-        (fits-flip K A L _ _ (good recs i c) (chain-at (lay K) (Fits K) recs i nothing opening c h))
-
-    back-lay : lay K (layAll (lay K) opening (take (suc i) recs)) (flip (getD recs i nothing)) ≡ layAll (lay K) opening (take i recs)
-    back-lay =
-        rw (layAll-take (lay K) recs i nothing opening h)
-        (lay-flip K A L _ _ (good recs i c) (chain-at (lay K) (Fits K) recs i nothing opening c h))
-
-  -- a refused call
-  refused-follows : (j : List ℕ) (p : Plain) (a : Answer) → Kept K opening j room (p .recs) (p .at) → Follows K opening room (refusal a (stateOf K opening j p)) a p
-  refused-follows j p a k = record { verdict = refl; same = refl; kept = k }
-
-  module _ (j : List ℕ) (recs : List Rec) (at : ℕ) (k : Kept K opening j room recs at) where
-    -- the cursor elsewhere
-    moved : (to : ℕ) → to ≤ length recs → Kept K opening j room recs to
-    moved to h = record { cursor = h; few = k .few; long = k .long; fitting = k .fitting; stored = k .stored; chain = k .chain }
-
-    -- a record that fits, added at the cursor
-    append-follows : (r : Rec) → Fits K (layAll (lay K) opening (take at recs)) r → (at ≡ mostRecords → ⊥) → size * (at + 1) ≤ room
-        → Follows K opening room (edited K r (stateOf K opening j (plain recs at))) accepted (plain (take at recs ++ (r ∷ [])) (at + 1))
-    append-follows r fit free space =
-        let q = take at recs in
-        let lq : length q ≡ at = length-take-le at recs (k .cursor) in
-        let lrs : length (q ++ (r ∷ [])) ≡ at + 1 = length-append q (r ∷ []) ∙ ap (λ (n : ℕ). n + 1) lq in
-        let all : take (at + 1) (q ++ (r ∷ [])) ≡ q ++ (r ∷ []) = take-all (at + 1) (q ++ (r ∷ [])) (omega (arith, lrs)) in
-        let below : (i : ℕ) → i < at → recordAt (put j (size * at) (recordBytes r)) (size * i) ≡ getD (q ++ (r ∷ [])) i nothing =
-        λ i h. recordAt-below (recordBytes r) j (size * at) (size * i) (omega arith)
-        ∙ k .stored i (omega (arith, k .cursor))
-        ∙ sym (List·getD-append q (r ∷ []) nothing i (omega (arith, lq)) ∙ getD-take at recs i nothing h) in
-        let last : recordAt (put j (size * at) (recordBytes r)) (size * at) ≡ getD (q ++ (r ∷ [])) at nothing =
-        recordAt-put j (size * at) r (omega (arith, k .long)) (fits-sized K A L _ r (good recs at (k .chain)) fit) ∙ sym (getD-at q r [] nothing at lq) in
+    -- a record that fits, added at the end
+    edit-ran : (r : Rec) → r .bench ≤ 1 → heldBy (r .bench) rs < half room → length rs < fitIn room → Fits K (floorOf K opening rs) r
+        → Ran K opening room (edited K r (stateOf K opening j rs)) (rs ++ (r ∷ []))
+    edit-ran r b half space fit =
+        let f = length rs in
+        let below : (i : ℕ) → i < f → stored (put j (size * f) (recordBytes r)) i ≡ listed (rs ++ (r ∷ [])) i =
+        λ i h. recordAt-below (recordBytes r) j (size * f) (size * i) (omega arith) ∙ k .stored i h ∙ sym (listed-more rs r i h) in
+        let last : stored (put j (size * f) (recordBytes r)) f ≡ listed (rs ++ (r ∷ [])) f =
+        recordAt-put j (size * f) r (omega (arith, k .long, fit-room room)) (fits-sized K A L _ r (good K opening room A L acc rs (k .could)) fit (omega arith)) ∙ sym (listed-last rs r) in
         record {
-          verdict = refl;
-          same = rw (all, lrs, layAll-snoc (lay K) q r opening);
+          same = rw (length-append rs (r ∷ []), layAll-snoc (lay K) rs r opening);
           kept = record {
-            cursor = omega (arith, lrs);
-            few = omega (arith, lrs, lt-of-le-of-ne (le-trans (k .cursor) (k .few)) free);
-            long = length-put (recordBytes r) j (size * at) ∙ k .long;
-            fitting = rw lrs space;
-            stored = λ i h. decided (decLt i at) (below i) (λ n. let z : i ≡ at = omega (arith, lrs) in rw z last);
-            chain = chain-snoc (lay K) (Fits K) q r opening (chain-take (lay K) (Fits K) recs at opening (k .chain)) fit;
+            could = could-edit K opening (fitIn room) rs (k .could) r b half fit;
+            long = length-put (recordBytes r) j (size * f) ∙ k .long;
+            stored = λ i h. decided (decLt i f) (below i) (λ n. let z : i ≡ f = omega (arith, length-more rs r) in rw z last);
           };
         }
 
-    -- the three edits
-    edit-follows : (w : Wish) → ((fl : List ℕ) → A fl → Granted K fl w) → let p = plain recs at in let a = editRules K w (floorOf K opening p) room at in
-        Follows K opening room (editStep K w (stateOf K opening j p)) a (cond (eqb (a .number) 0) (plainEdit K opening w p) p)
-    unfolding editStep editVerdict
-    edit-follows w m =
-        let p = plain recs at in
-        let fl = floorOf K opening p in
-        let a = editRules K w fl room at in
-        let o = edited K (recordOf K fl w) (stateOf K opening j p) in
-        rw (common-never j recs at (w .place) k, then-next accepted (editRules K w fl (length j) at) refl, k .long)
+    -- the bench's latest record, taken out
+    module _ (bench : ℕ) (b : bench ≤ 1) where
+      out-ran : UndoMet bench rs → Ran K opening room (takenOut K bench (stateOf K opening j rs)) (plainUndo bench rs)
+      out-ran m =
+          let f = length rs in
+          let i = latestIn bench rs in
+          let l = latest-is bench rs (m .some) .under in
+          let o = undo-out K opening (fitIn room) bench b rs (k .could) m A L acc in
+          let n = length-without rs i l in
+          let less : f - 1 ≡ length (plainUndo bench rs) = omega arith in
+          let room-of : size * f ≤ length j = omega (arith, k .long, fit-room room, few K opening (fitIn room) rs (k .could)) in
+          rw (latest-same j rs (k .stored) bench, k .stored i l, o .floor, less)
+          (record {
+            same = refl;
+            kept = record {
+              could = could-undo K opening (fitIn room) bench b rs (k .could) m A L acc;
+              long = length-closed j i f ∙ k .long;
+              stored = λ x h. decided (decLt x i)
+                  (λ g. stored-below j i f x g ∙ k .stored x (omega arith) ∙ sym (listed-below rs i l x g))
+                  (λ g. stored-above j i f l room-of x (omega arith) (omega arith) ∙ k .stored (suc x) (omega arith) ∙ sym (listed-above rs i l x (omega arith)));
+            };
+          })
+
+      -- an undo is refused where the plain list says: 27 never is the reason
+      rules-same : undoRules K bench (stateOf K opening j rs) ≡ plainUndoRules bench rs
+      unfolding undoRules plainUndoRules
+      rules-same =
+          let P = rule 26 (eqb (heldBy bench rs) 0) (length rs) then rule 43 (blockedIn bench rs) (length rs) in
+          rw (held-same j rs (k .stored) bench, latest-same j rs (k .stored) bench, blocked-same j rs (k .stored) bench)
+          (decided (ℕ-discrete (P .number) 0)
+          (λ z.
+          let m = undo-met bench rs (unfold plainUndoRules in z) in
+          let o = undo-out K opening (fitIn room) bench b rs (k .could) m A L acc in
+          rw (k .stored (latestIn bench rs) (latest-is bench rs (m .some) .under), fits-is K _ _ (o .fits), met 27 (length rs))
+          (then-next P accepted z ∙ sym (unfold plainUndoRules in undo-proper bench rs .at-0 z)))
+          (λ z. then-stop P z _))
+
+  -- ---- the calls
+
+  module _ (j : List ℕ) (rs : List Rec) (k : Kept K opening j room rs) (bench : ℕ) where
+    -- an edit
+    edit-follows : (e : Edit) → Follows K opening room (editStep K bench (wishOf e) (stateOf K opening j rs)) (plainVerdict K opening room (edit bench e) rs) (plainStep K opening room (edit bench e) rs)
+    unfolding editStep editVerdict plainVerdict plainStep
+    edit-follows e =
+        let w = wishOf e in
+        let a = plainVerdict K opening room (edit bench e) rs in
+        let s = stateOf K opening j rs in
+        let r = recordOf K bench (floorOf K opening rs) w in
+        rw (common-never j rs k bench (w .place), k .long, held-same j rs (k .stored) bench)
         (decided (ℕ-discrete (a .number) 0)
         (λ z.
-        let e = edit-met K w fl room at z in
-        let g = m fl (good recs at (k .chain)) (e .inside) (e .may) in
-        rw (unless-next a (stateOf K opening j p) o z, eq-eqb (a .number) 0 z, edit-proper K w fl room at .at-0 z)
-        (append-follows (recordOf K fl w) (record {
-          len = refl;
-          inside = e .inside;
-          same = refl;
-          kind = g .kind;
-          back = g .back;
-          word = g .word;
-        }) (e .free) (e .space)))
-        (λ z. rw (unless-stop a (stateOf K opening j p) o z, ne-eqb (a .number) 0 z) (refused-follows j p a k)))
+        let d = edit-made K opening room A L acc bench e rs (k .could) z in
+        let p = then-proper _ _ (bench-proper bench (length rs)) (edit-proper K w (floorOf K opening rs) (full room (length rs) (heldBy bench rs))) in
+        rw (unless-next a s (done (edited K r s)) z, eq-eqb (a .number) 0 z, p .at-0 z)
+        (record { verdict = refl; ran = edit-ran j rs k r (d .owner) (d .half) (d .space) (d .fits) }))
+        (λ z. rw (unless-stop a s (done (edited K r s)) z, ne-eqb (a .number) 0 z) (refused-follows j rs k a)))
 
-    -- redo
-    redo-follows : let p = plain recs at in let a = rule 26 (eqb at (length recs)) at in
-        Follows K opening room (redoStep K (stateOf K opening j p)) a (cond (eqb (a .number) 0) (plain recs (at + 1)) p)
-    unfolding redoStep redoVerdict unless rule _then_
-    redo-follows =
-        decided (decLt at (length recs))
-        (λ h.
-        rw (
-          common-never j recs at at k,
-          ne-eqb at (length recs) (λ e. omega arith),
-          k .stored at h,
-          fits-is K _ (getD recs at nothing) (chain-at (lay K) (Fits K) recs at nothing opening (k .chain) h),
-        )
-        (record { verdict = refl; same = rw (add-one at, layAll-take (lay K) recs at nothing opening h); kept = moved (at + 1) (omega arith) }))
-        (λ n.
-        let z : at ≡ length recs = omega (arith, k .cursor) in
-        rw (common-never j recs at at k, eq-eqb at (length recs) z) (refused-follows j (plain recs at) (refused 26 at) k))
+    -- undo
+    undo-follows : Follows K opening room (undoStep K bench (stateOf K opening j rs)) (plainVerdict K opening room (undo bench) rs) (plainStep K opening room (undo bench) rs)
+    unfolding undoStep outStep plainVerdict plainStep
+    undo-follows =
+        let s = stateOf K opening j rs in
+        let B = rule45 bench (length rs) in
+        let a = plainUndoRules bench rs in
+        let o = done (takenOut K bench s) in
+        rw (common-never j rs k bench (length rs))
+        (decided (ℕ-discrete (B .number) 0)
+        (λ y.
+        let b = bench-met bench (length rs) y in
+        rw (then-next B a y, unless-next B s (unless (undoRules K bench s) s o) y, rules-same j rs k bench b)
+        (decided (ℕ-discrete (a .number) 0)
+        (λ z.
+        rw (unless-next a s o z, eq-eqb (a .number) 0 z, undo-proper bench rs .at-0 z) (record { verdict = refl; ran = out-ran j rs k bench b (undo-met bench rs z) }))
+        (λ z. rw (unless-stop a s o z, ne-eqb (a .number) 0 z) (refused-follows j rs k a))))
+        (λ y. rw (then-stop B y a, unless-stop B s (unless (undoRules K bench s) s o) y, ne-eqb (B .number) 0 y) (refused-follows j rs k B)))
 
-  -- undo
-  undo-follows : (j : List ℕ) (recs : List Rec) (at : ℕ) → Kept K opening j room recs at → let p = plain recs at in let a = rule 26 (eqb at 0) at in
-      Follows K opening room (undoStep K (stateOf K opening j p)) a (cond (eqb (a .number) 0) (plain recs (at - 1)) p)
-  unfolding undoStep undoVerdict unless rule _then_
-  undo-follows j recs zero k = rw (common-never j recs 0 0 k) (refused-follows j (plain recs 0) (refused 26 0) k)
-  undo-follows j recs (suc i) k =
-      let z : suc i - 1 ≡ i = omega arith in
-      rw (
-        common-never j recs (suc i) (suc i) k,
-        ne-eqb (suc i) 0 (λ e. omega arith),
-        z,
-        k .stored i (k .cursor),
-        fits-is K _ _ (back-fits recs i (k .chain) (k .cursor)),
-        back-lay recs i (k .chain) (k .cursor),
-      )
-      (record { verdict = refl; same = refl; kept = moved j recs (suc i) k i (omega (arith, k .cursor)) })
+  -- put-back: undo after undo
+  unwind-ran : (bench : ℕ) → bench ≤ 1 → (n : ℕ) (j : List ℕ) (rs : List Rec) → Kept K opening j room rs
+      → Ran K opening room (unwind K bench n (stateOf K opening j rs)) (plainUnwind bench n rs)
+  unfolding unwind plainUnwind
+  unwind-ran bench b zero j rs k = record { same = refl; kept = k }
+  unwind-ran bench b (suc n) j rs k =
+      rw (rules-same j rs k bench b)
+      (decided (ℕ-discrete (plainUndoRules bench rs .number) 0)
+      (λ z.
+      let t = out-ran j rs k bench b (undo-met bench rs z) in
+      rw (eq-eqb _ 0 z, t .same) (unwind-ran bench b n _ (plainUndo bench rs) (t .kept)))
+      (λ z. rw (ne-eqb _ 0 z) (record { same = refl; kept = k })))
 
-  -- put-back
-  unwind-all : (j : List ℕ) (recs : List Rec) (at : ℕ) (k : Kept K opening j room recs at) (i : ℕ) → i ≤ length recs
-      → unwind K (layAll (lay K) opening (take i recs)) j i ≡ (opening, 0)
-  unfolding unwind layAll
-  unwind-all j recs at k zero h = refl
-  unwind-all j recs at k (suc i) h =
-      rw (k .stored i h, fits-is K _ _ (back-fits recs i (k .chain) h), back-lay recs i (k .chain) h) (unwind-all j recs at k i (omega arith))
+  -- where it ended
+  ended-follows : (bench : ℕ) → bench ≤ 1 → (j : List ℕ) (rs : List Rec) → Kept K opening j room rs
+      → Follows K opening room (ended (unwound K bench (stateOf K opening j rs))) (plainEnd (plainUndoRules bench (plainPutBack bench rs))) (plainPutBack bench rs)
+  unfolding unwound ended plainEnd
+  ended-follows bench b j rs k =
+      let t = unwind-ran bench b (length rs) j rs k in
+      let u = unwind K bench (length rs) (stateOf K opening j rs) in
+      let a = plainUndoRules bench (plainPutBack bench rs) in
+      let e : undoRules K bench u ≡ a = rw (t .same) (rules-same (u .journal) (plainPutBack bench rs) (t .kept) bench b) in
+      rw e
+      (decided (ℕ-discrete (a .number) 26)
+      (λ z. rw (eq-eqb _ 26 z) (record { verdict = refl; ran = t }))
+      (λ z. rw (ne-eqb _ 26 z) (record { verdict = refl; ran = t })))
 
-  putBack-follows : (j : List ℕ) (recs : List Rec) (at : ℕ) → Kept K opening j room recs at
-      → Follows K opening room (putBackStep K (stateOf K opening j (plain recs at))) accepted empty
-  unfolding putBackStep unless layAll
-  putBack-follows j recs at k =
-      rw (common-never j recs at at k, unwind-all j recs at k at (k .cursor))
-      (record {
-        verdict = refl;
-        same = refl;
-        kept = record {
-          cursor = omega arith;
-          few = omega arith;
-          long = k .long;
-          fitting = omega arith;
-          stored = λ i h. absurd (omega arith);
-          chain = chain-none (lay K) (Fits K) opening;
-        };
-      })
+  putBack-follows : (j : List ℕ) (rs : List Rec) → Kept K opening j room rs → (bench : ℕ)
+      → Follows K opening room (putBackStep K bench (stateOf K opening j rs)) (plainVerdict K opening room (putBack bench) rs) (plainStep K opening room (putBack bench) rs)
+  unfolding putBackStep plainVerdict plainStep
+  putBack-follows j rs k bench =
+      let s = stateOf K opening j rs in
+      let B = rule45 bench (length rs) in
+      let E = plainEnd (plainUndoRules bench (plainPutBack bench rs)) in
+      rw (common-never j rs k bench (length rs))
+      (decided (decLt 1 bench)
+      (λ l.
+      let y : B .number ≡ 0 → ⊥ = λ z. let b = bench-met bench (length rs) z in omega arith in
+      rw (lt-ltb 1 bench l, then-stop B y E, unless-stop B s _ y) (refused-follows j rs k B))
+      (λ l.
+      let b : bench ≤ 1 = omega arith in
+      let y : B .number ≡ 0 = ap (λ (a : Answer). a .number) (met-bench bench (length rs) b) in
+      rw (le-ltb 1 bench b, then-next B E y, unless-next B s _ y)
+      (ended-follows bench b j rs k)))
 
   -- one call
-  pub step-follows : (j : List ℕ) (c : Call) (p : Plain) → Kept K opening j room (p .recs) (p .at)
-      → Follows K opening room (step K c (stateOf K opening j p)) (plainVerdict K opening room c p) (plainStep K opening room c p)
-  unfolding step plainVerdict plainStep plainNext
-  step-follows j (edit e) p k = edit-follows j (p .recs) (p .at) k (wishOf e) (λ fl. L .edits fl e)
-  step-follows j undo p k = undo-follows j (p .recs) (p .at) k
-  step-follows j redo p k = redo-follows j (p .recs) (p .at) k
-  step-follows j putBack p k = putBack-follows j (p .recs) (p .at) k
+  pub step-follows : (j : List ℕ) (c : Call) (rs : List Rec) → Kept K opening j room rs
+      → Follows K opening room (step K c (stateOf K opening j rs)) (plainVerdict K opening room c rs) (plainStep K opening room c rs)
+  unfolding step
+  step-follows j (edit bench e) rs k = edit-follows j rs k bench e
+  step-follows j (undo bench) rs k = undo-follows j rs k bench
+  step-follows j (putBack bench) rs k = putBack-follows j rs k bench
 
   -- a run
-  pub run-follows : (cs : List Call) (j : List ℕ) (p : Plain) → Kept K opening j room (p .recs) (p .at)
-      → Ran K opening room (run K cs (stateOf K opening j p)) (plainRun K opening room cs p)
+  pub run-follows : (cs : List Call) (j : List ℕ) (rs : List Rec) → Kept K opening j room rs
+      → Ran K opening room (run K cs (stateOf K opening j rs)) (plainRun K opening room cs rs)
   unfolding run plainRun
-  run-follows [] j p k = record { same = refl; kept = k }
-  run-follows (c ∷ cs) j p k =
-      let o = step-follows j c p k in
-      rw (o .same) (run-follows cs _ (plainStep K opening room c p) (o .kept))
+  run-follows [] j rs k = record { same = refl; kept = k }
+  run-follows (c ∷ cs) j rs k =
+      let t = step-follows j c rs k .ran in
+      rw (t .same) (run-follows cs _ (plainStep K opening room c rs) (t .kept))

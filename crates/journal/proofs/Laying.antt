@@ -1,6 +1,6 @@
--- The laws of records on a lawful kind of floor: the test of 27 is the statement, what was laid on can be taken back, and then the floor
--- is what it was. Assumes nothing.
-use mathlib.Core.Path.{_≡_, refl, _∙_}
+-- The laws of records on a lawful kind of floor: the test of 27 is the statement; what was laid on can be taken back, and then the floor
+-- is what it was; and records of different fields fit in either order. Assumes nothing.
+use mathlib.Core.Path.{_≡_, refl, sym, subst, _∙_}
 use mathlib.Core.Bool.{true}
 use Prim.Native.Nat.{ℕ, _<_}
 use mathlib.Core.List.{List}
@@ -12,7 +12,7 @@ use Rattle.record.specs.declared.Rec.{Rec}
 use Rattle.record.specs.Record.{Sized, body, flip}
 use Rattle.laying.specs.Kind.{Kind, lay, fits}
 use Rattle.laying.specs.Fields.{fieldOf, fieldAt}
-use Rattle.laying.proofs.Fields.{has-after, word-here, lay-later}
+use Rattle.laying.proofs.Fields.{has-after, word-here, word-elsewhere, lay-later}
 use Rattle.journal.specs.Lawful.{Lawful, Fits}
 
 pub fits-is : (K : Kind) (fl : List ℕ) (r : Rec) → Fits K fl r → fits K fl r ≡ true
@@ -29,10 +29,11 @@ module _ (K : Kind) (A : List ℕ → Type 0) (L : Lawful K A) (fl : List ℕ) (
   old-word : r .old < 4294967296
   old-word = rw (← o .same) (u32-small fl (L .bytes fl a) (K .field fl (r .tag) (r .place)))
 
-  pub fits-sized : Sized r
-  fits-sized = record {
+  pub fits-sized : r .bench < 256 → Sized r
+  fits-sized h = record {
     tag = L .fields .tags fl (fieldOf r) (L .right fl a) (o .inside);
     len = omega (arith, o .len);
+    bench = h;
     place = L .fields .places fl (fieldOf r) (L .right fl a) (o .inside);
     old = old-word;
     new = o .word;
@@ -55,3 +56,20 @@ module _ (K : Kind) (A : List ℕ → Type 0) (L : Lawful K A) (fl : List ℕ) (
     where
       old-laid : lay K fl (flip r) ≡ fl
       old-laid = unfold lay in rw (← o .same) (put-back fl (fieldAt K fl (fieldOf r)) (L .bytes fl a))
+
+  -- DIFFERENT FIELDS: what fitted before still fits
+  pub fits-after : (q : Rec) → Fits K fl q → (fieldOf r ≡ fieldOf q → ⊥) → Fits K (lay K fl r) q
+  fits-after q p n = record {
+    len = p .len;
+    inside = has-after K (L .fields) fl r (L .right fl a) (o .inside) (fieldOf q) (p .inside);
+    same = word-elsewhere K (L .fields) fl r (L .right fl a) (o .inside) (fieldOf q) (p .inside) (λ e. n (sym e)) ∙ p .same;
+    kind = p .kind;
+    back = p .back;
+    word = p .word;
+  }
+
+-- and what fits after another of a different field fitted before it
+pub fits-before : (K : Kind) (A : List ℕ → Type 0) (L : Lawful K A) (fl : List ℕ) (r q : Rec) → A fl → Fits K fl r → Fits K (lay K fl r) q
+    → (fieldOf r ≡ fieldOf q → ⊥) → Fits K fl q
+fits-before K A L fl r q a o p n =
+    subst (λ (x : List ℕ). Fits K x q) (lay-flip K A L fl r a o) (fits-after K A L (lay K fl r) (flip r) (L .keeps fl r a o) (fits-flip K A L fl r a o) q p n)

@@ -1,10 +1,6 @@
 -- The laws of records laid on in turn, over any kind of floor and of record. Assumes nothing.
 use mathlib.Core.Path.{_≡_, refl}
-use Prim.Native.Nat.{ℕ, zero, suc, _<_}
 use mathlib.Core.List.{List, [], _∷_, _++_}
-use native.Mathlib.Omega.{arith}
-use lib.ListN.{length, getD, take}
-use lib.Seq.{take-suc}
 use Rattle.journal.specs.Replay.{layAll, Chain}
 
 module _ {F R : Type 0} (lay : F → R → F) where
@@ -22,27 +18,10 @@ module _ {F R : Type 0} (lay : F → R → F) where
   unfolding layAll
   layAll-snoc rs r fl = layAll-append rs (r ∷ []) fl
 
-  -- one record more
-  pub layAll-take : (rs : List R) (i : ℕ) (d : R) (fl : F) → i < length rs → layAll lay fl (take (suc i) rs) ≡ lay (layAll lay fl (take i rs)) (getD rs i d)
-  layAll-take rs i d fl h = rw (take-suc rs i d) (layAll-snoc (take i rs) (getD rs i d) fl)
-
   module _ (Fits : F → R → Type 0) where
     pub chain-none : (fl : F) → Chain lay Fits fl []
     unfolding Chain
     chain-none fl = tt
-
-    pub chain-at : (rs : List R) (i : ℕ) (d : R) (fl : F) → Chain lay Fits fl rs → i < length rs → Fits (layAll lay fl (take i rs)) (getD rs i d)
-    unfolding Chain layAll
-    chain-at [] i d fl c h = absurd (let z : _<_ i 0 = h in omega arith)
-    chain-at (r ∷ rs) zero d fl c h = c .0
-    chain-at (r ∷ rs) (suc i) d fl c h = chain-at rs i d (lay fl r) (c .1) (omega arith)
-
-    pub chain-take : (rs : List R) (i : ℕ) (fl : F) → Chain lay Fits fl rs → Chain lay Fits fl (take i rs)
-    unfolding Chain
-    chain-take [] zero fl c = c
-    chain-take [] (suc i) fl c = c
-    chain-take (r ∷ rs) zero fl c = tt
-    chain-take (r ∷ rs) (suc i) fl c = (c .0, chain-take rs i (lay fl r) (c .1))
 
     pub chain-snoc : (rs : List R) (r : R) (fl : F) → Chain lay Fits fl rs → Fits (layAll lay fl rs) r → Chain lay Fits fl (rs ++ (r ∷ []))
     unfolding Chain layAll

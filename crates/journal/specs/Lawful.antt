@@ -43,5 +43,5 @@ pub record Lawful (K : Kind) (A : List ℕ → Type 0) : Type 0 where
   pub right : (fl : List ℕ) → A fl → RightFloor K fl
   -- a record that fits keeps the floor accepted
   pub keeps : (fl : List ℕ) (r : Rec) → A fl → Fits K fl r → A (lay K fl r)
-  -- the three edits can be undone and redone
+  -- what the three edits write can be taken back
   pub edits : (fl : List ℕ) (e : Edit) → A fl → Granted K fl (wishOf e)

@@ -5,7 +5,9 @@ pub mod Calls
 pub mod Replay
 pub mod Order
 pub mod Plain
+pub mod Own
 pub mod Demand
 pub mod Stopped
+pub mod Sentences
 pub mod Editable
 pub mod SoundFloor

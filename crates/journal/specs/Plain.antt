@@ -1,55 +1,75 @@
--- The plain list of records with a cursor, which demand 3 compares a run with. No byte of the journal stands here. Definitions only.
-use Prim.Native.Nat.{ℕ, _+_, _-_}
-use mathlib.Core.Bool.{cond}
+-- M-108's plain list of records, which demand 3 compares a run with. No byte of the journal stands here. Definitions only.
+use Prim.Native.Nat.{ℕ, zero, suc}
+use mathlib.Core.Bool.{Bool, cond}
 use mathlib.Core.List.{List, [], _∷_, _++_}
-use lib.ListN.{length, take}
-use lib.Dec.{eqb}
-use Rattle.verdict.specs.Verdict.{accepted, rule}
+use lib.ListN.{length, take, drop}
+use lib.Dec.{eqb, ltb}
+use Rattle.verdict.specs.Verdict.{accepted, rule, _then_}
 use Rattle.verdict.specs.declared.Answer.{Answer}
 use Rattle.record.specs.declared.Rec.{Rec}
+use Rattle.holding.specs.Held.{listed, held, latest, blocked}
 use Rattle.laying.specs.Kind.{Kind, lay}
 use Rattle.journal.specs.Wish.{Wish, wishOf}
-use Rattle.journal.specs.Step.{recordOf, editRules}
-use Rattle.journal.specs.Calls.{Call, edit, undo, redo, putBack}
+use Rattle.journal.specs.Step.{rule45, recordOf, full, editRules}
+use Rattle.journal.specs.Calls.{Call, edit, undo, putBack}
 use Rattle.journal.specs.Replay.{layAll}
 
-pub record Plain : Type 0 where
-  pub recs : List Rec
-  pub at : ℕ
+-- the floor that it says: the opening floor with the records laid on in order
+abbrev pub floorOf : Kind → List ℕ → List Rec → List ℕ
+floorOf K opening rs = layAll (lay K) opening rs
 
-abbrev pub plain : List Rec → ℕ → Plain
-plain recs at = record { recs = recs; at = at }
+-- how many records a bench holds; which one is its latest; whether a later record of the other bench has the same tag and place
+abbrev pub heldBy : ℕ → List Rec → ℕ
+heldBy bench rs = held (listed rs) (length rs) bench
 
-abbrev pub empty : Plain
-empty = plain [] 0
+abbrev pub latestIn : ℕ → List Rec → ℕ
+latestIn bench rs = latest (listed rs) (length rs) bench
 
--- the floor that it says: the opening floor with the records before the cursor laid on in turn
-abbrev pub floorOf : Kind → List ℕ → Plain → List ℕ
-floorOf K opening p = layAll (lay K) opening (take (p .at) (p .recs))
+abbrev pub blockedIn : ℕ → List Rec → Bool
+blockedIn bench rs = blocked (listed rs) (length rs) bench (latestIn bench rs)
 
--- an edit drops the records from the cursor on and adds its own
-abbrev pub plainEdit : Kind → List ℕ → Wish → Plain → Plain
-plainEdit K opening w p = plain (take (p .at) (p .recs) ++ (recordOf K (floorOf K opening p) w ∷ [])) (p .at + 1)
+-- an edit adds its record at the end
+abbrev pub plainEdit : Kind → List ℕ → ℕ → Wish → List Rec → List Rec
+plainEdit K opening bench w rs = rs ++ (recordOf K bench (floorOf K opening rs) w ∷ [])
 
--- where 01 says that a call is refused, with the place: 21 to 25 for an edit, 26 for undo and redo, and nowhere else. `room` is the
--- journal's length
-unfoldable pub plainVerdict : Kind → List ℕ → ℕ → Call → Plain → Answer
-plainVerdict K opening room (edit e) p = editRules K (wishOf e) (floorOf K opening p) room (p .at)
-plainVerdict K opening room undo p = rule 26 (eqb (p .at) 0) (p .at)
-plainVerdict K opening room redo p = rule 26 (eqb (p .at) (length (p .recs))) (p .at)
-plainVerdict K opening room putBack p = accepted
+-- the list without record i
+unfoldable pub without : ℕ → List Rec → List Rec
+without i rs = take i rs ++ drop (suc i) rs
 
--- what a call that is not refused does to the list
-unfoldable pub plainNext : Kind → List ℕ → Call → Plain → Plain
-plainNext K opening (edit e) p = plainEdit K opening (wishOf e) p
-plainNext K opening undo p = plain (p .recs) (p .at - 1)
-plainNext K opening redo p = plain (p .recs) (p .at + 1)
-plainNext K opening putBack p = empty
+-- an undo takes out the bench's own latest record: 26 if the bench holds none, 43 if that one is blocked
+abbrev pub plainUndo : ℕ → List Rec → List Rec
+plainUndo bench rs = without (latestIn bench rs) rs
 
--- a refused call leaves it
-unfoldable pub plainStep : Kind → List ℕ → ℕ → Call → Plain → Plain
-plainStep K opening room c p = cond (eqb (plainVerdict K opening room c p .number) 0) (plainNext K opening c p) p
+unfoldable pub plainUndoRules : ℕ → List Rec → Answer
+plainUndoRules bench rs = rule 26 (eqb (heldBy bench rs) 0) (length rs) then rule 43 (blockedIn bench rs) (length rs)
 
-unfoldable pub plainRun : Kind → List ℕ → ℕ → List Call → Plain → Plain
-plainRun K opening room [] p = p
-plainRun K opening room (c ∷ cs) p = plainRun K opening room cs (plainStep K opening room c p)
+-- a put-back repeats this for the bench, at most n times, until an undo would be refused
+unfoldable pub plainUnwind : ℕ → ℕ → List Rec → List Rec
+plainUnwind bench zero rs = rs
+plainUnwind bench (suc n) rs = let rest = plainUnwind bench n (plainUndo bench rs) in cond (eqb (plainUndoRules bench rs .number) 0) rest rs
+
+abbrev pub plainPutBack : ℕ → List Rec → List Rec
+plainPutBack bench rs = plainUnwind bench (length rs) rs
+
+-- it is not refused where the bench then holds none, and stops at 43 otherwise
+unfoldable pub plainEnd : Answer → Answer
+plainEnd a = cond (eqb (a .number) 26) accepted a
+
+-- where 01 and 02 say that a call is refused, with the place: 45; 21 to 25 for an edit; 26 and 43 for an undo; 43 for a put-back; and
+-- nowhere else. `room` is the journal's length
+unfoldable pub plainVerdict : Kind → List ℕ → ℕ → Call → List Rec → Answer
+plainVerdict K opening room (edit bench e) rs =
+    rule45 bench (length rs) then editRules K (wishOf e) (floorOf K opening rs) (full room (length rs) (heldBy bench rs))
+plainVerdict K opening room (undo bench) rs = rule45 bench (length rs) then plainUndoRules bench rs
+plainVerdict K opening room (putBack bench) rs = rule45 bench (length rs) then plainEnd (plainUndoRules bench (plainPutBack bench rs))
+
+-- what a call does to the list. A refused one leaves it, but a put-back that stops keeps what was undone
+unfoldable pub plainStep : Kind → List ℕ → ℕ → Call → List Rec → List Rec
+plainStep K opening room (edit bench e) rs =
+    cond (eqb (plainVerdict K opening room (edit bench e) rs .number) 0) (plainEdit K opening bench (wishOf e) rs) rs
+plainStep K opening room (undo bench) rs = cond (eqb (plainVerdict K opening room (undo bench) rs .number) 0) (plainUndo bench rs) rs
+plainStep K opening room (putBack bench) rs = cond (ltb 1 bench) rs (plainPutBack bench rs)
+
+unfoldable pub plainRun : Kind → List ℕ → ℕ → List Call → List Rec → List Rec
+plainRun K opening room [] rs = rs
+plainRun K opening room (c ∷ cs) rs = plainRun K opening room cs (plainStep K opening room c rs)

@@ -1,25 +1,26 @@
--- One call over a floor and a journal: what it answers and leaves, over any kind of floor, in the order of document 01. Definitions only.
-use Prim.Native.Nat.{ℕ, zero, suc, _+_, _-_, _*_}
+-- One call of a bench over a floor and a journal: what it answers and leaves, over any kind of floor, in the order of documents 01 and
+-- 02 (M-108). Definitions only.
+use Prim.Native.Nat.{ℕ, zero, suc, _+_, _-_, _*_, _/_, min}
 use mathlib.Core.Bool.{Bool, not, cond, _||_}
 use mathlib.Core.List.{List}
 use lib.ListN.{length}
-use lib.Dec.{ltb, eqb}
+use lib.Dec.{ltb, leb, eqb}
 use Rattle.verdict.specs.Verdict.{rule, _then_}
 use Rattle.verdict.specs.declared.Answer.{Answer}
 use Rattle.wire.specs.Bytes.{put}
 use Rattle.record.specs.declared.Rec.{Rec}
-use Rattle.record.specs.Record.{size, made, flip, recordBytes, recordAt}
+use Rattle.record.specs.Record.{size, made, flip, recordBytes}
+use Rattle.holding.specs.Held.{stored, held, latest, blocked, closed}
 use Rattle.laying.specs.Kind.{Kind, lay, fits}
 use Rattle.journal.specs.declared.Session.{Session}
 use Rattle.journal.specs.Wish.{Wish}
 use Rattle.journal.specs.Lawful.{oldWord}
 
--- what is lent to a call, with the session: f records kept, cursor k
+-- what is lent to a call, with the session: f records kept
 pub record State : Type 0 where
   pub floor : List ℕ
   pub journal : List ℕ
   pub f : ℕ
-  pub k : ℕ
 
 -- what a call answers and leaves
 pub record Outcome : Type 0 where
@@ -27,121 +28,140 @@ pub record Outcome : Type 0 where
   pub floor : List ℕ
   pub journal : List ℕ
 
-abbrev pub lent : List ℕ → List ℕ → ℕ → ℕ → State
-lent floor journal f k = record { floor = floor; journal = journal; f = f; k = k }
+abbrev pub lent : List ℕ → List ℕ → ℕ → State
+lent floor journal f = record { floor = floor; journal = journal; f = f }
 
 abbrev pub left : Session → List ℕ → List ℕ → Outcome
 left answer floor journal = record { answer = answer; floor = floor; journal = journal }
 
-abbrev pub session : ℕ → ℕ → ℕ → ℕ → Session
-session number place f k = record { number = number; place = place; f = f; k = k }
+abbrev pub session : ℕ → ℕ → ℕ → Session
+session number place f = record { number = number; place = place; f = f }
 
 -- what the next call is lent
 abbrev pub next : Outcome → State
-next o = lent (o .floor) (o .journal) (o .answer .f) (o .answer .k)
+next o = lent (o .floor) (o .journal) (o .answer .f)
 
--- ---- every call
+-- done, with all as it now is
+abbrev pub done : State → Outcome
+done s = left (session 0 0 (s .f)) (s .floor) (s .journal)
 
--- no session keeps more records
-abbrev pub mostRecords : ℕ
-mostRecords = 4096
-
--- 28 if k > f, f > 4,096 or 15 * f exceeds the journal
-unfoldable pub badSession : ℕ → ℕ → ℕ → Bool
-badSession room f k = ltb f k || ltb mostRecords f || ltb room (size * f)
-
-unfoldable pub rule28 : ℕ → ℕ → ℕ → ℕ → Answer
-rule28 room f k place = rule 28 (badSession room f k) place
-
--- every call: 1 to 6, then 28. The place is the one asked for, or k where the call names none
-unfoldable pub commonVerdict : Kind → State → ℕ → Answer
-commonVerdict K s place = K .rules (s .floor) then rule28 (length (s .journal)) (s .f) (s .k) place
-
--- a refusal gives f and k as handed in and leaves all that is lent
+-- refused, with f as it is; all that is lent is left
 abbrev pub refusal : Answer → State → Outcome
-refusal a s = left (session (a .number) (a .place) (s .f) (s .k)) (s .floor) (s .journal)
+refusal a s = left (session (a .number) (a .place) (s .f)) (s .floor) (s .journal)
 
 -- the outcome, unless the verdict refuses
 unfoldable pub unless : Answer → State → Outcome → Outcome
 unless a s o = cond (eqb (a .number) 0) o (refusal a s)
 
+-- ---- every call
+
+-- no journal keeps more records
+abbrev pub mostRecords : ℕ
+mostRecords = 4096
+
+-- R: the records that fit, at most 4,096
+unfoldable pub fitIn : ℕ → ℕ
+fitIn room = min mostRecords (room / size)
+
+-- what each bench may hold: R/2 rounded down
+abbrev pub half : ℕ → ℕ
+half room = fitIn room / 2
+
+-- how many records a bench holds
+abbrev pub holds : ℕ → State → ℕ
+holds bench s = held (stored (s .journal)) (s .f) bench
+
+-- 28 if f exceeds R
+unfoldable pub rule28 : ℕ → ℕ → ℕ → Answer
+rule28 room f place = rule 28 (ltb (fitIn room) f) place
+
+-- 45 for a bench over 1; its place is f
+unfoldable pub rule45 : ℕ → ℕ → Answer
+rule45 bench f = rule 45 (ltb 1 bench) f
+
+-- every call: 1 to 6, then 28, then 45. The place of 28 is the one asked for, or f where the call names none
+unfoldable pub commonVerdict : Kind → ℕ → ℕ → State → Answer
+commonVerdict K bench place s = K .rules (s .floor) then rule28 (length (s .journal)) (s .f) place then rule45 bench (s .f)
+
 -- ---- the edits
 
--- the record that an edit makes
-abbrev pub recordOf : Kind → List ℕ → Wish → Rec
-recordOf K fl w = made (w .tag) (w .place) (oldWord K fl w) (w .new (oldWord K fl w))
+-- the record that a bench's edit makes
+abbrev pub recordOf : Kind → ℕ → List ℕ → Wish → Rec
+recordOf K bench fl w = made (w .tag) bench (w .place) (oldWord K fl w) (w .new (oldWord K fl w))
 
--- 25 exactly if k = 4,096 or 15 * (k + 1) exceeds the journal
-unfoldable pub full : ℕ → ℕ → Bool
-full room k = eqb k mostRecords || ltb room (size * (k + 1))
+-- 25 exactly when the bench holds its half or more, or f is R
+unfoldable pub full : ℕ → ℕ → ℕ → Bool
+full room f n = leb (half room) n || eqb f (fitIn room)
+
+abbrev pub isFull : ℕ → State → Bool
+isFull bench s = full (length (s .journal)) (s .f) (holds bench s)
 
 -- 21: the place is outside its table
 unfoldable pub rule21 : Kind → ℕ → ℕ → List ℕ → Answer
 rule21 K tag place fl = rule 21 (not (ltb place (K .count fl tag))) place
 
 -- 21; then 22, 23 or 24 by its tag; 25
-unfoldable pub editRules : Kind → Wish → List ℕ → ℕ → ℕ → Answer
-editRules K w fl room k =
-    rule21 K (w .tag) (w .place) fl then rule (21 + w .tag) (not (w .may (oldWord K fl w))) (w .place) then rule 25 (full room k) (w .place)
+unfoldable pub editRules : Kind → Wish → List ℕ → Bool → Answer
+editRules K w fl full =
+    rule21 K (w .tag) (w .place) fl then rule (21 + w .tag) (not (w .may (oldWord K fl w))) (w .place) then rule 25 full (w .place)
 
 -- every call's rules and 21: what is asked before the old word is read
-unfoldable pub openVerdict : Kind → ℕ → ℕ → State → Answer
-openVerdict K tag place s = commonVerdict K s place then rule21 K tag place (s .floor)
+unfoldable pub openVerdict : Kind → ℕ → ℕ → ℕ → State → Answer
+openVerdict K bench tag place s = commonVerdict K bench place s then rule21 K tag place (s .floor)
 
-unfoldable pub editVerdict : Kind → Wish → State → Answer
-editVerdict K w s = commonVerdict K s (w .place) then editRules K w (s .floor) (length (s .journal)) (s .k)
+unfoldable pub editVerdict : Kind → ℕ → Wish → State → Answer
+editVerdict K bench w s = commonVerdict K bench (w .place) s then editRules K w (s .floor) (isFull bench s)
 
--- an edit writes its four floor bytes and record k; f and k become k + 1
-abbrev pub edited : Kind → Rec → State → Outcome
-edited K r s = left (session 0 0 (s .k + 1) (s .k + 1)) (lay K (s .floor) r) (put (s .journal) (size * s .k) (recordBytes r))
+-- an edit writes its four floor bytes and record f
+abbrev pub edited : Kind → Rec → State → State
+edited K r s = lent (lay K (s .floor) r) (put (s .journal) (size * s .f) (recordBytes r)) (s .f + 1)
 
-unfoldable pub editStep : Kind → Wish → State → Outcome
-editStep K w s = unless (editVerdict K w s) s (edited K (recordOf K (s .floor) w) s)
+unfoldable pub editStep : Kind → ℕ → Wish → State → Outcome
+editStep K bench w s = unless (editVerdict K bench w s) s (done (edited K (recordOf K bench (s .floor) w) s))
 
--- ---- undo and redo
+-- ---- undo
 
--- they lay a record on, move k and leave the journal
-abbrev pub turned : Kind → Rec → ℕ → State → Outcome
-turned K r k s = left (session 0 0 (s .f) k) (lay K (s .floor) r) (s .journal)
+-- the bench's latest record, and that record taken back
+abbrev pub latestOf : ℕ → State → ℕ
+latestOf bench s = latest (stored (s .journal)) (s .f) bench
 
--- the record that undo lays on: record k - 1, taken back
-abbrev pub undone : State → Rec
-undone s = flip (recordAt (s .journal) (size * (s .k - 1)))
+abbrev pub undone : ℕ → State → Rec
+undone bench s = flip (stored (s .journal) (latestOf bench s))
 
--- the record that redo lays on: record k
-abbrev pub redone : State → Rec
-redone s = recordAt (s .journal) (size * s .k)
+-- 43 of that record
+abbrev pub isBlocked : ℕ → State → Bool
+isBlocked bench s = blocked (stored (s .journal)) (s .f) bench (latestOf bench s)
 
--- 26 if k = 0, 27 if the record does not fit
-unfoldable pub undoVerdict : Kind → State → Answer
-undoVerdict K s = commonVerdict K s (s .k) then rule 26 (eqb (s .k) 0) (s .k) then rule 27 (not (fits K (s .floor) (undone s))) (s .k)
+-- 26 if the bench holds none, 43 if its latest record is blocked, 27 if that record does not fit
+unfoldable pub undoRules : Kind → ℕ → State → Answer
+undoRules K bench s =
+    rule 26 (eqb (holds bench s) 0) (s .f) then rule 43 (isBlocked bench s) (s .f) then rule 27 (not (fits K (s .floor) (undone bench s))) (s .f)
 
-unfoldable pub undoStep : Kind → State → Outcome
-undoStep K s = unless (undoVerdict K s) s (turned K (undone s) (s .k - 1) s)
+-- the old bytes are written back, the record is taken out, and later ones move down
+abbrev pub takenOut : Kind → ℕ → State → State
+takenOut K bench s = lent (lay K (s .floor) (undone bench s)) (closed (s .journal) (latestOf bench s) (s .f)) (s .f - 1)
 
--- 26 if k = f, 27 if the record does not fit
-unfoldable pub redoVerdict : Kind → State → Answer
-redoVerdict K s = commonVerdict K s (s .k) then rule 26 (eqb (s .k) (s .f)) (s .k) then rule 27 (not (fits K (s .floor) (redone s))) (s .k)
+-- an undo that every call's rules let through
+unfoldable pub outStep : Kind → ℕ → State → Outcome
+outStep K bench s = unless (undoRules K bench s) s (done (takenOut K bench s))
 
-unfoldable pub redoStep : Kind → State → Outcome
-redoStep K s = unless (redoVerdict K s) s (turned K (redone s) (s .k + 1) s)
+unfoldable pub undoStep : Kind → ℕ → State → Outcome
+undoStep K bench s = unless (commonVerdict K bench (s .f) s) s (outStep K bench s)
 
 -- ---- put-back
 
-abbrev pub unwindsTo : List ℕ → ℕ → List ℕ × ℕ
-unwindsTo floor k = (floor, k)
+-- undone again and again, at most n times, until an undo would be refused
+unfoldable pub unwind : Kind → ℕ → ℕ → State → State
+unwind K bench zero s = s
+unwind K bench (suc n) s = let rest = unwind K bench n (takenOut K bench s) in cond (eqb (undoRules K bench s .number) 0) rest s
 
--- undone one after another, until k = 0 or a record does not fit: the floor, and k there
-unfoldable pub unwind : Kind → List ℕ → List ℕ → ℕ → List ℕ × ℕ
-unwind K floor journal zero = unwindsTo floor 0
-unwind K floor journal (suc k) =
-    let r = flip (recordAt journal (size * k)) in
-    let rest = unwind K (lay K floor r) journal k in
-    cond (fits K floor r) rest (unwindsTo floor (suc k))
+-- .. and then refused as that undo would be
+unfoldable pub unwound : Kind → ℕ → State → Outcome
+unwound K bench s = let u = unwind K bench (s .f) s in refusal (undoRules K bench u) u
 
--- put-back undoes until k = 0, then sets f to 0; at 27 it stops, keeping what was undone, with k there and f unchanged
-abbrev pub unwound : List ℕ → ℕ → State → Outcome
-unwound floor k s = cond (eqb k 0) (left (session 0 0 0 0) floor (s .journal)) (left (session 27 k (s .f) k) floor (s .journal))
+-- it has come to its end where the bench holds none; else it stops at 43 or 27, keeping what was undone, f being the records left
+unfoldable pub ended : Outcome → Outcome
+ended o = cond (eqb (o .answer .number) 26) (done (next o)) o
 
-unfoldable pub putBackStep : Kind → State → Outcome
-putBackStep K s = let u = unwind K (s .floor) (s .journal) (s .k) in unless (commonVerdict K s (s .k)) s (unwound (u .0) (u .1) s)
+unfoldable pub putBackStep : Kind → ℕ → State → Outcome
+putBackStep K bench s = unless (commonVerdict K bench (s .f) s) s (ended (unwound K bench s))

@@ -1,24 +1,34 @@
--- A put-back that 27 stopped, the one refusal that does not leave all as it was, in plain words. Definitions only.
-use Prim.Native.Nat.{ℕ, suc, _-_, _*_, _<_}
+-- A put-back in plain words: one that is done, and one that 43 or 27 stopped, the one refusal that does not leave all as it was.
+-- Definitions only.
+use Prim.Native.Nat.{ℕ}
 use mathlib.Core.Path.{_≡_}
-use mathlib.Core.Bool.{true, false}
-use mathlib.Core.List.{List}
-use Rattle.record.specs.Record.{size, flip, recordAt}
-use Rattle.laying.specs.Kind.{Kind, lay, fits}
-use Rattle.journal.specs.Step.{State, Outcome}
+use mathlib.Core.Logic.{_⊎_}
+use Rattle.verdict.specs.Verdict.{refused}
+use Rattle.laying.specs.Kind.{Kind}
+use Rattle.journal.specs.Step.{State, Outcome, next, holds, undoRules, takenOut}
+use Rattle.journal.specs.Calls.{Call, putBack, step}
 
--- from a floor and k to a floor and k: records k - 1, k - 2, .. were taken back, each of which fitted when its turn came
-pub data Undone (K : Kind) (journal : List ℕ) : List ℕ → ℕ → List ℕ → ℕ → Type 0 where
-  none : {fl : List ℕ} {k : ℕ} → Undone K journal fl k fl k
-  more : {fl to : List ℕ} {k i : ℕ} → fits K fl (flip (recordAt journal (size * k))) ≡ true
-      → Undone K journal (lay K fl (flip (recordAt journal (size * k)))) k to i → Undone K journal fl (suc k) to i
+-- from a state to a state: records of the bench were taken out, its latest first, each of which could be undone when its turn came
+pub data Undone (K : Kind) (bench : ℕ) : State → State → Type 0 where
+  none : {s : State} → Undone K bench s s
+  more : {s to : State} → undoRules K bench s .number ≡ 0 → Undone K bench (takenOut K bench s) to → Undone K bench s to
 
--- at 27 it stops, keeping what was undone, with k there and f unchanged; the place is that k
-pub record Stopped (K : Kind) (s : State) (o : Outcome) : Type 0 where
-  pub number : o .answer .number ≡ 27
-  pub place : o .answer .place ≡ o .answer .k
-  pub f : o .answer .f ≡ s .f
-  pub journal : o .journal ≡ s .journal
-  pub undone : Undone K (s .journal) (s .floor) (s .k) (o .floor) (o .answer .k)
-  pub left : 0 < o .answer .k
-  pub here : fits K (o .floor) (flip (recordAt (s .journal) (size * (o .answer .k - 1)))) ≡ false
+-- it is done where the bench holds no record any more
+pub record Finished (K : Kind) (bench : ℕ) (s : State) (o : Outcome) : Type 0 where
+  pub number : o .answer .number ≡ 0
+  pub place : o .answer .place ≡ 0
+  pub undone : Undone K bench s (next o)
+  pub none : holds bench (next o) ≡ 0
+
+-- it stops at 43 or 27, keeping what was undone, f being the records left; the place is that f, and an undo there is refused the same
+pub record Stopped (K : Kind) (bench : ℕ) (s : State) (o : Outcome) : Type 0 where
+  pub number : (o .answer .number ≡ 43) ⊎ (o .answer .number ≡ 27)
+  pub place : o .answer .place ≡ o .answer .f
+  pub undone : Undone K bench s (next o)
+  pub here : undoRules K bench (next o) ≡ refused (o .answer .number) (o .answer .place)
+
+-- the call was a put-back that stopped
+pub record StoppedPutBack (K : Kind) (c : Call) (s : State) : Type 0 where
+  pub bench : ℕ
+  pub call : c ≡ putBack bench
+  pub stopped : Stopped K bench s (step K c s)

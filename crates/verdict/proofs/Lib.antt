@@ -2,6 +2,7 @@ pub mod Bools
 pub mod Lowest
 pub mod Verdict
 pub mod Lists
+pub mod Highest
 pub mod Each
 pub mod Marks
 pub mod Once

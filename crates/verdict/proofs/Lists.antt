@@ -2,6 +2,7 @@
 use Prim.Native.Nat.{ℕ, zero, suc, _+_, _<_, _≤_}
 use native.Mathlib.Omega.{arith}
 use native.Mathlib.Nat.{eq-or-lt-of-le, le-of-suc-le-suc, not-suc-le-zero}
+use native.Mathlib.Decide.{decLt}
 use mathlib.Core.Path.{_≡_, refl, ap, ap₂, _∙_}
 use mathlib.Core.Logic.{⊎-elim}
 use mathlib.Core.Bool.{Bool, true, false, _&&_}
@@ -10,7 +11,7 @@ use lib.Dec.{T, eqb, ltb}
 use lib.ListN.{length, getD}
 use borrow.Author.Tests.{eq-eqb, ne-eqb, ltb-true}
 use Rattle.verdict.specs.Lists.{bit, times, tally, Only}
-use Rattle.verdict.proofs.Bools.{clash, test, T-true, true-T, and-true}
+use Rattle.verdict.proofs.Bools.{clash, test, decided, T-true, true-T, and-true}
 
 -- ---- a test that is computed over a whole list holds of each entry
 
@@ -147,3 +148,24 @@ one-tally (suc n) p o =
     let lower : o .it < n = ⊎-elim (λ (z : o .it ≡ n). clash (o .passes) (ap p z ∙ y)) (λ (z : o .it < n). z) (eq-or-lt-of-le (le-of-suc-le-suc (o .under))) in
     let r = rest (record { it = o .it; under = lower; passes = o .passes; only = λ m l q. o .only m (omega arith) q }) in
     omega (arith, ap bit y))
+
+-- a number is left out, and those above it move down by one
+pub tally-without : (n i : ℕ) (p q : ℕ → Bool) → i ≤ n → ((k : ℕ) → k < i → q k ≡ p k) → ((k : ℕ) → i ≤ k → k < n → q k ≡ p (suc k))
+    → tally (suc n) p ≡ bit (p i) + tally n q
+unfolding tally
+tally-without zero i p q l below above = let e : i ≡ 0 = omega arith in rw e
+tally-without (suc n) i p q l below above =
+    decided (decLt n i)
+    (λ h.
+    let e : i ≡ suc n = omega arith in
+    rw (e, tally-same (suc n) q p (λ k m. below k (omega arith))))
+    (λ h.
+    let ih = tally-without n i p q (omega arith) below (λ k x y. above k x (omega arith)) in
+    let e : bit (q n) ≡ bit (p (suc n)) = ap bit (above n (omega arith) (omega arith)) in
+    omega arith)
+
+-- every number passes one of two tests and not the other
+pub tally-both : (n : ℕ) (p q : ℕ → Bool) → ((k : ℕ) → k < n → bit (p k) + bit (q k) ≡ 1) → tally n p + tally n q ≡ n
+unfolding tally
+tally-both zero p q h = refl
+tally-both (suc n) p q h = omega (arith, h n (omega arith), tally-both n p q (λ k l. h k (omega arith)))

@@ -9,7 +9,7 @@ use lib.Dec.{T, ltb, eqb}
 use lib.ListN.{length, getD, replicate, length-append, length-replicate}
 use lib.Ieee.{ofBits, toBits, round, le, lt, eq}
 use borrow.Author.Tests.{le-ltb, lt-ltb, ltb-true, eqb-true}
-use Rattle.verdict.specs.Lowest.{lowest, anyUnder, allUnder}
+use Rattle.verdict.specs.Lowest.{lowest, highest, anyUnder, allUnder}
 use Rattle.verdict.specs.Lists.{times, tally, once}
 use Rattle.verdict.specs.Verdict.{rule, ruleOfEach, _then_, inOrder, refused, accepted}
 use Rattle.verdict.specs.Memory.{workSize}
@@ -38,11 +38,12 @@ use Rattle.floor.specs.Groups.{rules1to19}
 use Rattle.floor.specs.Reader.{rule20, partRules, readerRules, readerVerdict, walkableFaces, answerOf, readerAnswer}
 use Rattle.floor.specs.Rewrite.{fixedForm, rewriteVerdict, rewriteAnswer, rewriteMemory}
 use Rattle.floor.proofs.Order.{by-groups}
-use Rattle.record.specs.Record.{recordBytes}
-use Rattle.laying.specs.Allowed.{permitted}
-use Rattle.laying.specs.Kind.{lay}
-use Rattle.laying.specs.Area.{areaCount, areaField}
-use Rattle.journal.specs.Step.{badSession, rule28, commonVerdict, unless, full, rule21, editRules, editVerdict, editStep}
+use Rattle.record.specs.Record.{recordBytes, recordAt}
+use Rattle.holding.specs.Held.{isOf, sameField, held, latest, blocked, closed}
+use Rattle.laying.specs.Allowed.{permitted, linkable, mayLink, transitionWord}
+use Rattle.laying.specs.Kind.{lay, fits}
+use Rattle.laying.specs.Area.{areaCount, areaField, areaAllowed}
+use Rattle.journal.specs.Step.{fitIn, rule28, rule45, commonVerdict, unless, full, rule21, editRules, editVerdict, editStep, undoRules, outStep, undoStep, putBackStep}
 use Rattle.journal.specs.Calls.{step, run}
 use Rattle.query.specs.Rules.{rule29, rule30, offGrid, queryRules, queryVerdict}
 use Rattle.query.specs.Points.{cornerAt, faceHolds, boxHolds, lowestFace, visitedNodes, replyOf, pointOf, pointAnswer}
@@ -127,7 +128,8 @@ unfolding worked triangle square tested quick gives same
     rule11 strayRoot rule12 neither isLeaf isInner isPlane nodesOf rule13 oneTree deep ends leafFaces rule14 tooSmall holdsChildren holdsFace holdsCorner boxOf boxOfBits holdsPoint holdsBox between noneOver le lt eq
     rule15 rule16 repeats partner runs from to wrongAdjacent pairing border rule17 standsIn wrongEdge missing rule18 wrongTransition rule19 wrongLoop loopStart openRun openAt after
     pointAnswer pointOf replyOf queryVerdict queryRules rule29 rule30 offGrid lowestFace faceHolds cornerAt boxHolds holdsXY visitedNodes visitedCount visited shown above
-    step run editStep editVerdict editRules commonVerdict headerVerdict headerRules fieldRules inOrder rule28 badSession rule21 full unless areaCount areaField lay put recordBytes permitted
+    step run editStep editVerdict editRules commonVerdict headerVerdict headerRules fieldRules inOrder rule28 rule45 fitIn rule21 full unless areaCount areaField lay put recordBytes permitted mayLink transitionWord linkable
+    undoStep outStep undoRules putBackStep held latest highest blocked closed isOf sameField recordAt fits areaAllowed
     inTriangle sides allLeft allRight cross size64 mayNudge nudgeBits onGrid scaled gridFloat toBits round
 computed = tt
 

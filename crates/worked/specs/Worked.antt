@@ -1,4 +1,5 @@
--- Document 01's checked examples as one table: what is done, and the numbers that it gives by the definitions.
+-- The papers' checked examples as one table, document 01's as 02 restates them: what is done, and the numbers that it gives by the
+-- definitions.
 use Prim.Native.Nat.{ℕ, _+_}
 use mathlib.Core.Path.{_≡_}
 use mathlib.Core.List.{List, [], _∷_, _++_, map}
@@ -18,19 +19,19 @@ use Rattle.floor.specs.declared.Floor.{Floor}
 use Rattle.query.specs.Points.{pointAnswer}
 use Rattle.laying.specs.Area.{areaFloor}
 use Rattle.journal.specs.Step.{Outcome, lent}
-use Rattle.journal.specs.Wish.{Edit, paint}
-use Rattle.journal.specs.Calls.{edit, step, run}
+use Rattle.journal.specs.Wish.{paint, link}
+use Rattle.journal.specs.Calls.{Call, edit, undo, putBack, step, run}
 use Rattle.query.specs.declared.Point.{Point}
 
 -- what is done: a file of some bytes and then so many zeros is read; a floor is rewritten into so many zeros; half-edges of a file are paired; a floor is asked for the
--- face under a point, x and y in sixty-fourths; over a floor and an empty journal of so many bytes edits are made and then one more; a
+-- face under a point, x and y in sixty-fourths; over a floor and an empty journal of so many bytes calls are made and then one more; a
 -- float is nudged
 pub data Deed : Type 0 where
   read : List ℕ → ℕ → Deed
   rewrite : List ℕ → ℕ → Deed
   pair : List ℕ → List ℕ → Deed
   ask : List ℕ → ℤ → ℤ → Deed
-  call : List ℕ → ℕ → List Edit → Edit → Deed
+  call : List ℕ → ℕ → List Call → Call → Deed
   nudge : ℕ → ℤ → Deed
 
 -- the reader's answer: number, place, faces, walkable, edges, perimeters
@@ -45,9 +46,9 @@ formed f = f .number ∷ f .place ∷ f .length ∷ []
 abbrev pub pointed : Point → List ℕ
 pointed r = r .number ∷ r .place ∷ r .found ∷ r .face ∷ r .visited ∷ []
 
--- a call's: number, place, f, k, and then the journal's bytes
+-- a call's: number, place, f, and then the journal's bytes
 abbrev pub called : Outcome → List ℕ
-called o = o .answer .number ∷ o .answer .place ∷ o .answer .f ∷ o .answer .k ∷ o .journal
+called o = o .answer .number ∷ o .answer .place ∷ o .answer .f ∷ o .journal
 
 -- what a deed gives: the reader's answer; the rewriter's answer and the output; what the adjacency entries should be; the query's answer; the last call's answer and the
 -- journal; 1 or 0 and the new bits
@@ -56,7 +57,7 @@ gives (read start zeros) = told (readerAnswer (start ++ replicate zeros 0) workS
 gives (rewrite file room) = formed (rewriteAnswer file workSize room) ++ rewriteMemory file workSize (replicate room 0)
 gives (pair file hs) = map (pairing (partsOf file)) hs
 gives (ask file x y) = pointed (pointAnswer file workSize x y)
-gives (call file room es e) = called (step areaFloor (edit e) (run areaFloor (map edit es) (lent file (replicate room 0) 0 0)))
+gives (call file room cs c) = called (step areaFloor c (run areaFloor cs (lent file (replicate room 0) 0)))
 gives (nudge b n) = bit (mayNudge b n) ∷ nudgeBits b n ∷ []
 
 pub record Case : Type 0 where
@@ -106,9 +107,20 @@ square a b c d =
     ((0 ∷ 0 ∷ 0 ∷ one ∷ one ∷ 0 ∷ 1 ∷ 4 ∷ 0 ∷ none ∷ none ∷ []) ++
     ((none ∷ 3 ∷ none ∷ 1 ∷ none ∷ none ∷ []) ++ (a ∷ none ∷ b ∷ none ∷ c ∷ none ∷ d ∷ none ∷ 4 ∷ [])))))))))
 
--- the record of face 0 painted from 4 to 5
+-- the record of face 0 painted from 4 to 5 by bench 0, and from 5 to 4 by bench 1
 abbrev pub painted : List ℕ
-painted = 1 ∷ 12 ∷ 0 ∷ 0 ∷ 0 ∷ 0 ∷ 0 ∷ 4 ∷ 0 ∷ 0 ∷ 0 ∷ 5 ∷ 0 ∷ 0 ∷ 0 ∷ []
+painted = 1 ∷ 13 ∷ 0 ∷ 0 ∷ 0 ∷ 0 ∷ 0 ∷ 0 ∷ 4 ∷ 0 ∷ 0 ∷ 0 ∷ 5 ∷ 0 ∷ 0 ∷ 0 ∷ []
+
+abbrev pub repainted : List ℕ
+repainted = 1 ∷ 13 ∷ 0 ∷ 1 ∷ 0 ∷ 0 ∷ 0 ∷ 0 ∷ 5 ∷ 0 ∷ 0 ∷ 0 ∷ 4 ∷ 0 ∷ 0 ∷ 0 ∷ []
+
+-- the record of edge 0 linked from nowhere to room 2 by bench 1
+abbrev pub linked : List ℕ
+linked = 2 ∷ 13 ∷ 0 ∷ 1 ∷ 0 ∷ 0 ∷ 0 ∷ 0 ∷ 255 ∷ 255 ∷ 255 ∷ 255 ∷ 2 ∷ 0 ∷ 0 ∷ 0 ∷ []
+
+-- both benches paint face 0
+abbrev pub bothPaint : List Call
+bothPaint = edit 0 (paint 0 5) ∷ edit 1 (paint 0 4) ∷ []
 
 unfoldable pub worked : List Case
 worked =
@@ -123,11 +135,19 @@ worked =
     case (ask triangle (pos 32) (pos 32)) (0 ∷ 0 ∷ 1 ∷ 0 ∷ 1 ∷ []) ∷  -- W8
     case (ask triangle (pos 64) (pos 0)) (0 ∷ 0 ∷ 1 ∷ 0 ∷ 1 ∷ []) ∷
     case (ask triangle (pos 33) (pos 32)) (0 ∷ 0 ∷ 0 ∷ 0 ∷ 1 ∷ []) ∷
-    case (call triangle 15 [] (paint 0 5)) (0 ∷ 0 ∷ 1 ∷ 1 ∷ painted) ∷  -- W9
-    case (call triangle 15 [] (paint 0 7)) (22 ∷ 0 ∷ 0 ∷ 0 ∷ replicate 15 0) ∷  -- W10
+    case (call triangle 32 [] (edit 0 (paint 0 5))) (0 ∷ 0 ∷ 1 ∷ (painted ++ replicate 16 0)) ∷  -- W9
+    case (call triangle 32 [] (edit 0 (paint 0 7))) (22 ∷ 0 ∷ 0 ∷ replicate 32 0) ∷  -- W10
     case (nudge 0x3FC0_0000 (pos 1)) (1 ∷ 0x3FC2_0000 ∷ []) ∷  -- W11
-    case (call triangle 14 [] (paint 0 5)) (25 ∷ 0 ∷ 0 ∷ 0 ∷ replicate 14 0) ∷  -- W12
-    case (call triangle 15 (paint 0 5 ∷ []) (paint 0 4)) (25 ∷ 0 ∷ 1 ∷ 1 ∷ painted) ∷ []
+    case (call triangle 31 [] (edit 0 (paint 0 5))) (25 ∷ 0 ∷ 0 ∷ replicate 31 0) ∷  -- W12
+    case (call triangle 31 [] (edit 1 (paint 0 5))) (25 ∷ 0 ∷ 0 ∷ replicate 31 0) ∷
+    case (call triangle 32 (edit 0 (paint 0 5) ∷ []) (edit 0 (paint 0 4))) (25 ∷ 0 ∷ 1 ∷ (painted ++ replicate 16 0)) ∷
+    case (call triangle 32 (edit 0 (paint 0 5) ∷ []) (edit 1 (paint 0 4))) (0 ∷ 0 ∷ 2 ∷ (painted ++ repainted)) ∷
+    case (call triangle 32 bothPaint (edit 0 (paint 0 5))) (25 ∷ 0 ∷ 2 ∷ (painted ++ repainted)) ∷
+    case (call triangle 32 bothPaint (edit 1 (paint 0 5))) (25 ∷ 0 ∷ 2 ∷ (painted ++ repainted)) ∷
+    -- M-108: bench 0 is blocked by bench 1; its record is taken out from under one of another field, whose old bytes stay; a bench 2
+    case (call triangle 32 bothPaint (undo 0)) (43 ∷ 2 ∷ 2 ∷ (painted ++ repainted)) ∷
+    case (call triangle 32 (edit 0 (paint 0 5) ∷ edit 1 (link 0 (pos 2)) ∷ []) (undo 0)) (0 ∷ 0 ∷ 1 ∷ (linked ++ linked)) ∷
+    case (call triangle 32 bothPaint (putBack 2)) (45 ∷ 2 ∷ 2 ∷ (painted ++ repainted)) ∷ []
 
 -- the statement: each case gives what the paper says
 abbrev pub Right : List Case → Type 0

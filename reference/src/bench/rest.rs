@@ -3,15 +3,21 @@
 use crate::answer::Session;
 use crate::calls::{Calls, OTHER, REFERENCE};
 use crate::floor::WORK;
+use crate::generate::fields::word_of;
 use crate::generate::random::Random;
 use crate::generate::shapes::large;
 use crate::generate::texts;
+use crate::journal::{Record, MOST_RECORDS, NUDGE, PAINT, RECORD};
 use std::hint::black_box;
 use std::time::{Duration, Instant};
 
 /// Faces, and the columns and rows of cells that give them.
 const SIZES: [(usize, usize, usize); 4] =
     [(64, 8, 4), (512, 16, 16), (2_048, 32, 32), (4_096, 64, 32)];
+/// Records of a journal in which both benches have theirs.
+const RECORDS: [usize; 4] = [512, 1_024, 2_048, MOST_RECORDS as usize];
+/// The material that a face is painted with: stone, walkable as all faces timed are.
+const STONE: u32 = 4;
 /// Each figure is the best of so many runs of at least this long.
 const RUNS: usize = 5;
 const RUN: Duration = Duration::from_millis(20);
@@ -49,6 +55,7 @@ pub fn table() {
             });
         }
     }
+    journals_table(&sides);
     texts_table(&sides);
 }
 
@@ -62,7 +69,7 @@ fn bench(faces: usize, columns: usize, rows: usize) -> Bench {
         out: vec![0; floor.len()],
         floor,
         work,
-        journal: vec![0; 15],
+        journal: vec![0; 2 * RECORD],
     }
 }
 
@@ -82,16 +89,63 @@ fn query(side: &Calls, bench: &mut Bench) {
     black_box((side.query)(&bench.floor, &mut bench.work, 100, 100));
 }
 
-/// Paints face 0 with grass or stone and undoes it, so that the next run finds the same floor.
+/// Paints face 0 in an empty journal and undoes it.
 fn paint(side: &Calls, bench: &mut Bench) {
-    let painted: Session = (side.paint)(&mut bench.floor, &mut bench.journal, 0, 0, 0, 3);
+    paint_and_undo(side, &mut bench.floor, &mut bench.journal, 0);
+}
+
+/// Bench 0 paints face 0 and undoes it, so that the next run finds the same floor and journal.
+fn paint_and_undo(side: &Calls, floor: &mut [u8], journal: &mut [u8], f: usize) {
+    let painted: Session = (side.paint)(floor, journal, f as u32, 0, 0, STONE);
     assert_eq!(painted.number, 0);
-    black_box((side.undo)(
-        &mut bench.floor,
-        &mut bench.journal,
-        painted.f,
-        painted.k,
-    ));
+    black_box((side.undo)(floor, journal, painted.f, 0));
+}
+
+/// Calls over journals of growing length. What an undo or a put-back took out is there again in the
+/// next run: the journal is copied anew before each, which is counted.
+fn journals_table(sides: &[Calls]) {
+    let mut floor = bench(SIZES[0].0, SIZES[0].1, SIZES[0].2).floor;
+    let (mut paints, mut undos, mut put_backs) = (None, None, None);
+    for records in RECORDS {
+        let half = records / 2;
+        let mut journal = under(&floor, half - 1, records - 1);
+        journal.resize(records * RECORD, 0);
+        row("paint_at_end", records, sides, &mut paints, |side| {
+            paint_and_undo(side, &mut floor, &mut journal, records - 1);
+        });
+        let lowest = under(&floor, 1, records);
+        row("undo_lowest", records, sides, &mut undos, |side| {
+            journal.copy_from_slice(&lowest);
+            let undone = (side.undo)(&mut floor, &mut journal, records as u32, 0);
+            assert_eq!((undone.number, undone.f as usize), (0, records - 1));
+        });
+        let halves = under(&floor, half, records);
+        row("put_back_under", records, sides, &mut put_backs, |side| {
+            journal.copy_from_slice(&halves);
+            let left = (side.put_back)(&mut floor, &mut journal, records as u32, 0);
+            assert_eq!((left.number, left.f as usize), (0, half));
+        });
+    }
+}
+
+/// A journal of so many records, the lowest of which are bench 0's and all others bench 1's. Each bench
+/// has one field, which its records leave as it is: all of bench 1's are asked about and moved when one
+/// of bench 0's is taken out, and none is in the way.
+fn under(floor: &[u8], lowest: usize, records: usize) -> Vec<u8> {
+    let record = |bench: u8, tag: u8| {
+        let word = word_of(floor, (tag, 0)).expect("a field of the floor");
+        let record = Record {
+            tag,
+            bench,
+            place: 0,
+            old: word,
+            new: word,
+        };
+        record.bytes()
+    };
+    let below = record(0, PAINT).repeat(lowest);
+    let above = record(1, NUDGE).repeat(records - lowest);
+    [below, above].concat()
 }
 
 /// Layouts and sight texts of 8 to 64 rooms.

@@ -97,7 +97,12 @@ fn show(asked: &Asked, sides: [&Side; 2]) -> bool {
     handed_in(&case);
     let [one, other] = sides.map(|side| run(&case, side));
     for (left, right) in one.iter().zip(&other) {
-        println!("{:<15}{} {}", left.call, sides[0].calls.name, fields(left));
+        println!(
+            "{:<15}{} {}",
+            left.call.name(),
+            sides[0].calls.name,
+            fields(left)
+        );
         println!("{:<15}{} {}", "", sides[1].calls.name, fields(right));
     }
     let found = wrong(&case, sides, [&one, &other]);
@@ -121,13 +126,13 @@ fn handed_in(case: &Case) {
         Case::Session(play) => {
             bytes("floor", &play.floor);
             bytes("journal", &play.journal);
-            println!("f {}, k {}", play.f, play.k);
+            println!("f {}", play.f);
             play.moves.iter().for_each(|next| println!("{next:?}"));
         }
         Case::Pair(pair) => {
             bytes("floor", &pair.floor);
             bytes("journal", &pair.journal);
-            println!("f {}, k {}", pair.f, pair.k);
+            println!("f {}", pair.f);
             println!("both orders of {:?}", pair.edits);
             if let Some(sum) = pair.by_the_sum() {
                 println!("and by the sum {sum:?}");

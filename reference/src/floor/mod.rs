@@ -48,7 +48,7 @@ pub fn accepted<'a>(bytes: &'a [u8], work: &mut [u8]) -> Checked<Tables<'a>> {
 }
 
 /// Rules 1 to 19.
-fn check(bytes: &[u8]) -> Checked<Tables<'_>> {
+pub(crate) fn check(bytes: &[u8]) -> Checked<Tables<'_>> {
     let tables = Tables::open(bytes)?; // 1 to 6
     mesh::floats_are_finite(&tables)?; // 7
     mesh::corners_are_right(&tables)?; // 8

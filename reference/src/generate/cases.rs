@@ -2,23 +2,23 @@
 
 use super::edit_pairs::{self, Pair};
 use super::random::Random;
-use super::sessions::{self, Play};
+use super::sessions::{self, Edit, Play};
 use super::texts::{self, Word};
 use super::{damage, floors, queries, text_damage};
 use crate::floor::{OLD_WORK, WORK};
+use crate::journal::{LINK, PAINT};
 use crate::{form, layout, sight};
 
 /// A call and its numbers. What an edit writes is handed over as 32 bits.
-#[derive(Clone, Copy, Debug)]
+#[derive(Clone, Copy, Debug, PartialEq, Eq)]
 #[rustfmt::skip]
 pub enum Call {
     Read,
     Rewrite,
     Query { x: i32, y: i32 },
-    Edit { tag: u8, f: u32, k: u32, place: u32, to: u32 },
-    Undo { f: u32, k: u32 },
-    Redo { f: u32, k: u32 },
-    PutBack { f: u32, k: u32 },
+    Edit { f: u32, edit: Edit },
+    Undo { f: u32, bench: u32 },
+    PutBack { f: u32, bench: u32 },
     LayoutRewrite,
     LayoutRename { room: u32 },
     SightRewrite,
@@ -29,16 +29,44 @@ pub enum Call {
 }
 
 impl Call {
-    /// The same journal call with these f and k handed in.
-    pub fn with(mut self, session: (u32, u32)) -> Call {
-        if let Call::Edit { f, k, .. }
-        | Call::Undo { f, k }
-        | Call::Redo { f, k }
-        | Call::PutBack { f, k } = &mut self
-        {
-            (*f, *k) = session;
+    /// The call's name, without what all exported names begin with.
+    pub fn name(&self) -> &'static str {
+        match self {
+            Call::Read => "read",
+            Call::Rewrite => "rewrite",
+            Call::Query { .. } => "query",
+            Call::Edit { edit, .. } => match edit.tag {
+                PAINT => "paint",
+                LINK => "link",
+                _ => "nudge",
+            },
+            Call::Undo { .. } => "undo",
+            Call::PutBack { .. } => "put_back",
+            Call::LayoutRewrite => "layout_rewrite",
+            Call::LayoutRename { .. } => "layout_rename",
+            Call::SightRewrite => "sight_rewrite",
+            Call::SightRename { .. } => "sight_rename",
+            Call::SightRow { .. } => "sight_row",
+            Call::LinkCheck => "link_check",
+            Call::Caption { .. } => "caption",
+        }
+    }
+
+    /// The same journal call with this f handed in.
+    pub fn with(mut self, handed_in: u32) -> Call {
+        if let Call::Edit { f, .. } | Call::Undo { f, .. } | Call::PutBack { f, .. } = &mut self {
+            *f = handed_in;
         }
         self
+    }
+
+    /// f as handed in and the bench, if this is a journal call.
+    pub fn session(&self) -> Option<(u32, u32)> {
+        match *self {
+            Call::Edit { f, edit } => Some((f, edit.bench)),
+            Call::Undo { f, bench } | Call::PutBack { f, bench } => Some((f, bench)),
+            _ => None,
+        }
     }
 }
 
@@ -53,6 +81,17 @@ pub enum Case {
     Pair(Pair),
 }
 
+impl Case {
+    /// The sessions that are played: none, one, or all that a pair asks for.
+    pub fn plays(&self) -> Vec<Play> {
+        match self {
+            Case::One { .. } => Vec::new(),
+            Case::Session(play) => vec![play.clone()],
+            Case::Pair(pair) => pair.plays(),
+        }
+    }
+}
+
 fn one<const N: usize>(call: Call, lent: [Lent; N]) -> Case {
     Case::One {
         call,
@@ -64,18 +103,18 @@ fn one<const N: usize>(call: Call, lent: [Lent; N]) -> Case {
 pub fn case(seed: u64, number: u64) -> Case {
     let mut random = Random::of_case(seed, number);
     let random = &mut random;
-    match random.under(43) {
+    match random.under(48) {
         0..=11 => read(random),
         12 | 13 => rewrite(random),
         14..=18 => query(random),
-        19..=25 => Case::Session(sessions::play(random)),
-        26..=28 => layout_rewrite(random),
-        29 | 30 => layout_rename(random),
-        31 | 32 => sight_rewrite(random),
-        33 | 34 => sight_rename(random),
-        35 | 36 => sight_row(random),
-        37 | 38 => link_check(random),
-        39 => caption(random),
+        19..=28 => Case::Session(sessions::play(random)),
+        29..=31 => layout_rewrite(random),
+        32 | 33 => layout_rename(random),
+        34 | 35 => sight_rewrite(random),
+        36 | 37 => sight_rename(random),
+        38 | 39 => sight_row(random),
+        40 | 41 => link_check(random),
+        42 => caption(random),
         _ => Case::Pair(edit_pairs::pair(random)),
     }
 }

@@ -15,7 +15,7 @@ const NONE: u32 = 0xFFFF_FFFF;
 /// More faces than a floor of storeys has: the least number of a large floor.
 pub const LARGE: usize = 500;
 /// One floor in so many is large: they take far longer than the others.
-const RARE: usize = 150;
+const RARE: usize = 100;
 
 /// A valid floor, laid out in either way.
 pub fn good(random: &mut Random) -> Vec<u8> {

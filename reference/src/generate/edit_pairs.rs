@@ -1,17 +1,17 @@
-//! Pairs of edits for request M-107: two edits of different fields or of the same one, made on the
-//! same start in both orders.
+//! Pairs of edits for request M-107: two edits of different fields or of the same one, by one bench or
+//! by both, made on the same start in both orders.
 
+use super::fields::{any_value, lay, place, places, right_value, Field, TAGS};
+use super::journals::bench_bytes;
 use super::random::Random;
-use super::sessions::{any_value, lay, place, places, right_value, small_floor, Edit, Play};
-use crate::grid::{bits_of, FARTHEST};
-use crate::journal::{LARGEST_STEP, LINK, MOST_RECORDS, NUDGE, PAINT, RECORD};
+use super::sessions::{any_bench, bench, odd_bytes, small_floor, Edit, Play};
+use crate::grid::{bits_of, FARTHEST, MINUS_ZERO};
+use crate::journal::{
+    fitting, held, BENCH_AT, LARGEST_STEP, LINK, MOST_RECORDS, NUDGE, PAINT, RECORD,
+};
 
-/// The bits of the two zeros.
+/// The bits of positive zero.
 const PLUS_ZERO: u32 = 0;
-const MINUS_ZERO: u32 = 0x8000_0000;
-
-/// A field that an edit changes: tag and place.
-type Field = (u8, u32);
 
 /// The start that both orders share, and the two edits.
 #[derive(Clone, Debug)]
@@ -19,24 +19,32 @@ pub struct Pair {
     pub floor: Vec<u8>,
     pub journal: Vec<u8>,
     pub f: u32,
-    pub k: u32,
     pub edits: [Edit; 2],
 }
 
 impl Pair {
     /// Whether both edits are of the same field.
     pub fn is_of_one_field(&self) -> bool {
-        let [one, other] = self.edits.map(|edit| (edit.tag, edit.place));
+        let [one, other] = self.edits.map(|edit| edit.field());
         one == other
     }
 
-    /// Whether the journal has room for both edits from k on.
-    pub fn has_room_for_both(&self) -> bool {
-        let records = self.k as usize + 2;
-        records <= MOST_RECORDS as usize && RECORD * records <= self.journal.len()
+    /// Whether both edits are by the same bench.
+    pub fn is_by_one_bench(&self) -> bool {
+        self.edits[0].bench == self.edits[1].bench
     }
 
-    /// For two nudges of one field the nudge by their sum, if 32 bits hold that.
+    /// Whether the journal has room for both edits and, where they are one bench's, so has its half.
+    pub fn has_room_for_both(&self) -> bool {
+        let fit = fitting(self.journal.len());
+        if self.f + 2 > fit {
+            return false;
+        }
+        let held = held(&self.journal, self.f, self.edits[0].bench);
+        !self.is_by_one_bench() || held + 2 <= fit / 2
+    }
+
+    /// For two nudges of one field the nudge by their sum, if 32 bits hold that, by the first one's bench.
     pub fn by_the_sum(&self) -> Option<Edit> {
         let [one, other] = self.edits;
         if one.tag != NUDGE || !self.is_of_one_field() {
@@ -65,7 +73,6 @@ impl Pair {
             floor: self.floor.clone(),
             journal: self.journal.clone(),
             f: self.f,
-            k: self.k,
             moves: edits.iter().map(|edit| edit.as_move()).collect(),
         }
     }
@@ -74,47 +81,77 @@ impl Pair {
 /// Any pair: half of them of different fields. Nudges of one field have the most ways to end.
 pub fn pair(random: &mut Random) -> Pair {
     let mut floor = small_floor(random);
-    let edits = match random.under(8) {
+    let changes = match random.under(8) {
         0..=3 => of_different_fields(random, &floor),
         4 => of_one_field(random, &floor, PAINT),
         5 => of_one_field(random, &floor, LINK),
         _ => two_nudges(random, &mut floor),
     };
-    let (f, k, journal) = session(random);
+    let (f, journal) = start(random);
+    let benches = benches(random);
     Pair {
         floor,
         journal,
         f,
-        k,
-        edits,
+        edits: [0, 1].map(|number| changes[number].by(benches[number])),
     }
 }
 
-/// f, k and a journal of any bytes, mostly with k = 0 and with room for two records or more.
-fn session(random: &mut Random) -> (u32, u32, Vec<u8>) {
-    let most = i64::from(MOST_RECORDS);
-    let k = match random.under(24) {
-        0 => most - 2,
-        1 => most - 1,
-        2..=4 => random.from_to(1, 5),
-        _ => 0,
-    };
-    let room = random.pick(&[0, 1, 2, 2, 2, 2, 2, 2, 2, 3, 3, 5, 5, 20]);
-    let f = match random.once_in(5) {
-        true => random.from_to(k, most.min(k + room)),
-        false => k,
-    };
-    let length = RECORD * (k + room) as usize + random.pick(&[0, 0, 1, 14]);
-    (f as u32, k as u32, random.bytes(length))
+/// The benches of both edits: one for both or each its own, now and then any that are handed in.
+fn benches(random: &mut Random) -> [u32; 2] {
+    let first = bench(random);
+    match random.under(8) {
+        0 => [(); 2].map(|()| any_bench(random)),
+        1..=3 => [first, first],
+        _ => [first, 1 - first],
+    }
 }
 
-/// An edit of this field, mostly a right one.
-fn edit(random: &mut Random, floor: &[u8], (tag, place): Field) -> Edit {
-    let to = match random.once_in(8) {
-        true => any_value(random, floor, tag, place),
-        false => right_value(random, floor, tag, place),
+/// f and a journal of any bytes, mostly with f = 0 and with room for two records or more. The first f
+/// are of benches that have their share of it, or not.
+fn start(random: &mut Random) -> (u32, Vec<u8>) {
+    let f = match random.under(24) {
+        0 => MOST_RECORDS - 2,
+        1 => MOST_RECORDS - 1,
+        2..=7 => random.from_to(1, 6) as u32,
+        _ => 0,
     };
-    Edit { tag, place, to }
+    let room = random.pick(&[0, 1, 2, 2, 3, 4, 4, 4, 4, 4, 4, 5, 5, 6, 8, 20]);
+    let length = RECORD * (f as usize + room) + odd_bytes(random);
+    let mut journal = random.bytes(length);
+    for (number, bench) in bench_bytes(random, f as usize).into_iter().enumerate() {
+        journal[number * RECORD + BENCH_AT] = bench;
+    }
+    (f, journal)
+}
+
+/// What an edit changes and what it writes there, before it is said by which bench.
+#[derive(Clone, Copy)]
+struct Change {
+    field: Field,
+    to: u32,
+}
+
+impl Change {
+    fn by(self, bench: u32) -> Edit {
+        let (tag, place) = self.field;
+        let to = self.to;
+        Edit {
+            bench,
+            tag,
+            place,
+            to,
+        }
+    }
+}
+
+/// A change of this field, mostly a right one.
+fn change(random: &mut Random, floor: &[u8], field: Field) -> Change {
+    let to = match random.once_in(8) {
+        true => any_value(random, floor, field),
+        false => right_value(random, floor, field),
+    };
+    Change { field, to }
 }
 
 /// A field with this tag, now and then outside its table.
@@ -127,20 +164,20 @@ fn field(random: &mut Random, floor: &[u8], tag: u8) -> Field {
     (tag, place)
 }
 
-/// Two edits of different fields.
-fn of_different_fields(random: &mut Random, floor: &[u8]) -> [Edit; 2] {
+/// Two changes of different fields.
+fn of_different_fields(random: &mut Random, floor: &[u8]) -> [Change; 2] {
     let mut fields = match random.under(4) {
         0 => neighbours(random, floor),
         1 => equal_places(random, floor),
         _ => any_two(random, floor),
     };
     random.shuffle(&mut fields);
-    fields.map(|field| edit(random, floor, field))
+    fields.map(|field| change(random, floor, field))
 }
 
 /// Two fields side by side in one table.
 fn neighbours(random: &mut Random, floor: &[u8]) -> [Field; 2] {
-    let tag = random.pick(&[PAINT, LINK, NUDGE]);
+    let tag = random.pick(&TAGS);
     let (tag, place) = field(random, floor, tag);
     let before = place.checked_sub(1).unwrap_or(1);
     [(tag, place), (tag, before)]
@@ -148,7 +185,7 @@ fn neighbours(random: &mut Random, floor: &[u8]) -> [Field; 2] {
 
 /// The same place number under two tags.
 fn equal_places(random: &mut Random, floor: &[u8]) -> [Field; 2] {
-    let mut tags = [PAINT, LINK, NUDGE];
+    let mut tags = TAGS;
     random.shuffle(&mut tags);
     let [one, other, _] = tags;
     let shared = places(floor, one).min(places(floor, other));
@@ -160,7 +197,7 @@ fn equal_places(random: &mut Random, floor: &[u8]) -> [Field; 2] {
 fn any_two(random: &mut Random, floor: &[u8]) -> [Field; 2] {
     loop {
         let [one, other] = [(); 2].map(|()| {
-            let tag = random.pick(&[PAINT, LINK, NUDGE]);
+            let tag = random.pick(&TAGS);
             field(random, floor, tag)
         });
         if one != other {
@@ -169,32 +206,32 @@ fn any_two(random: &mut Random, floor: &[u8]) -> [Field; 2] {
     }
 }
 
-/// Two edits of one field with this tag.
-fn of_one_field(random: &mut Random, floor: &[u8], tag: u8) -> [Edit; 2] {
+/// Two changes of one field with this tag.
+fn of_one_field(random: &mut Random, floor: &[u8], tag: u8) -> [Change; 2] {
     let field = field(random, floor, tag);
-    [(); 2].map(|()| edit(random, floor, field))
+    [(); 2].map(|()| change(random, floor, field))
 }
 
 /// Two nudges of one float: as it stands, or made for the steps to end where a rule has its limit.
-fn two_nudges(random: &mut Random, floor: &mut [u8]) -> [Edit; 2] {
+fn two_nudges(random: &mut Random, floor: &mut [u8]) -> [Change; 2] {
     if random.once_in(3) {
         return of_one_field(random, floor, NUDGE);
     }
-    let (bits, steps) = match random.under(4) {
-        0 => there_and_back(random),
-        1 => to_zero(random),
-        2 => a_far_way(random),
+    let (bits, steps) = match random.under(9) {
+        0 | 1 => there_and_back(random),
+        2 | 3 => to_zero(random),
+        4 | 5 => a_far_way(random),
+        6 => too_far_and_back(random),
         _ => past_the_end(random),
     };
-    let place = random.under(places(floor, NUDGE)) as u32;
-    lay(floor, NUDGE, place, bits);
-    let mut edits = steps.map(|step| Edit {
-        tag: NUDGE,
-        place,
+    let field = (NUDGE, random.under(places(floor, NUDGE)) as u32);
+    lay(floor, field, bits);
+    let mut changes = steps.map(|step| Change {
+        field,
         to: step as u32,
     });
-    random.shuffle(&mut edits);
-    edits
+    random.shuffle(&mut changes);
+    changes
 }
 
 /// Any permitted step.
@@ -221,9 +258,21 @@ fn a_far_way(random: &mut Random) -> (u32, [i64; 2]) {
     let sum = random.pick(&[LARGEST_STEP, LARGEST_STEP + 1, beyond, beyond]);
     let one = random.from_to(sum - LARGEST_STEP, LARGEST_STEP);
     let way = random.pick(&[1, -1]);
-    let middle = FARTHEST - 2 * LARGEST_STEP;
-    let start = random.from_to(-middle, middle);
-    (bits_of(start), [way * one, way * (sum - one)])
+    (middle(random), [way * one, way * (sum - one)])
+}
+
+/// A step that is none, and a permitted one back: their sum is a permitted step.
+fn too_far_and_back(random: &mut Random) -> (u32, [i64; 2]) {
+    let out = random.from_to(LARGEST_STEP + 1, 2 * LARGEST_STEP);
+    let back = random.from_to(out - LARGEST_STEP, LARGEST_STEP);
+    let way = random.pick(&[1, -1]);
+    (middle(random), [way * out, -way * back])
+}
+
+/// A float from which two steps do not leave the grid.
+fn middle(random: &mut Random) -> u32 {
+    let far = FARTHEST - 2 * LARGEST_STEP;
+    bits_of(random.from_to(-far, far))
 }
 
 /// A float near the end of the grid, a step beyond it, and one back that must come first.

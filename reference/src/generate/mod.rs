@@ -1,15 +1,20 @@
-//! Seeded cases: valid floors and texts, damaged ones aimed at every refusal, sessions, pairs of edits and queries.
+//! Seeded cases: valid floors and texts, damaged ones aimed at every refusal, sessions of two benches, pairs of edits
+//! and queries.
 
 pub mod cases;
 pub mod damage;
 pub mod edit_pairs;
+pub mod fields;
 pub mod finish;
 pub mod floors;
+pub mod journals;
 pub mod model;
 pub mod pair_damage;
 pub mod queries;
 pub mod random;
+pub mod runs;
 pub mod sessions;
 pub mod shapes;
 pub mod text_damage;
 pub mod texts;
+pub mod two_faults;

@@ -1,12 +1,20 @@
 //! Small floors and texts made by hand, and short names for calls with enough work memory.
 #![allow(dead_code)] // each test program uses some of these
 
-use reference::answer::{Floor, Form, Point};
+use reference::answer::{Floor, Form, Point, Session};
+use reference::calls::REFERENCE;
+use reference::compare::Side;
 use reference::floor;
 use reference::generate::model::Model;
 use reference::{form, layout, query, sight};
 
 pub const NONE: u32 = 0xFFFF_FFFF;
+
+/// This implementation with no fault planted.
+pub const HONEST: Side = Side {
+    calls: REFERENCE,
+    fault: None,
+};
 
 fn bits(numbers: [f32; 3]) -> [u32; 3] {
     numbers.map(f32::to_bits)
@@ -18,6 +26,11 @@ fn node(least: [f32; 3], greatest: [f32; 3], words: [u32; 5]) -> [u32; 11] {
     node[3..6].copy_from_slice(&bits(greatest));
     node[6..].copy_from_slice(&words);
     node
+}
+
+/// The answer of a journal call.
+pub fn session(number: u32, place: u32, f: u32) -> Session {
+    Session { number, place, f }
 }
 
 /// One walkable triangle (0,0), (1,0), (0,1).

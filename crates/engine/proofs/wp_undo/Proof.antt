@@ -4,7 +4,7 @@ use Rattle.engine.proofs.wp_undo.Statement.{statement}
 use Rattle.engine.proofs.wp_undo.Tie as tie
 
 returns : tie.Need-returns
-returns c = c .before .before .undo .ensures
+returns c = c .before .before .before .before .undo .ensures
 
 pub wp-undo-spec : {M : Type 1} → statement M
-wp-undo-spec = tie.close (tie.spec (search needs) (search needs) returns)
+wp-undo-spec = tie.close (tie.spec (search needs) (search needs) (search needs) returns)

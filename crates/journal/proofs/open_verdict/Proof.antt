@@ -9,8 +9,8 @@ use Rattle.verdict.specs.Verdict.{rule, _then_}
 use Rattle.verdict.specs.declared.Answer.{Answer}
 use Rattle.verdict.proofs.Verdict.{then-next, then-stop, passed}
 use Rattle.tables.specs.Header.{headerVerdict}
-use Rattle.journal.specs.Step.{rule21, rule28}
-use Rattle.journal.proofs.Steps.{leb-not}
+use Rattle.journal.specs.Step.{rule21, rule28, rule45}
+use Rattle.journal.proofs.Edits.{leb-not}
 use Rattle.journal.proofs.open_verdict.Statement.{statement}
 use Rattle.journal.proofs.open_verdict.Tie as tie
 
@@ -19,11 +19,11 @@ returns c =
     let r = c .before .before .common-verdict in
     r .ensures ∙ sym (then-stop _ (λ z. c .if1 .taken (ap (λ (a : Answer). a .number) (r .ensures) ∙ z)) _)
 
-accepts : (c : tie.Else1) → let a = c .before .before .before .before .args in (headerVerdict (now (a .floor)) then rule28 (a .room) (a .f) (a .k) (a .place)) .number ≡ 0
+accepts : (c : tie.Else1) → let a = c .before .before .before .before .args in (headerVerdict (now (a .floor)) then rule28 (a .room) (a .f) (a .place) then rule45 (a .bench) (a .f)) .number ≡ 0
 accepts c = sym (ap (λ (a : Answer). a .number) (c .before .before .common-verdict .ensures)) ∙ c .if1 .left
 
 count-of-requires : tie.Need-count-of-requires
-count-of-requires c κs = passed _ _ (accepts c) .0
+count-of-requires c κs = passed _ _ (passed _ _ (accepts c) .0) .0
 
 -- 21 at the place asked for
 outside : (c : tie.After-first-rule) → let a = c .before .before .before .before .before .before .args in c .first-rule .result ≡ rule 21 (leb (c .before .count-of .result) (a .place)) (a .place)

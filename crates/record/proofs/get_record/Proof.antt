@@ -1,4 +1,4 @@
--- Five readings. Assumes nothing.
+-- Six readings. Assumes nothing.
 use native.Mathlib.Omega.{arith}
 use mathlib.Core.Path.{refl}
 use Rattle.record.specs.Record.{recordAt}
@@ -9,8 +9,9 @@ returns : tie.Need-returns
 unfolding recordAt
 returns c =
     rw (
-      c .before .before .before .before .before .wide .ensures .0,
-      c .before .before .before .wide2 .ensures .0,
+      c .before .before .before .before .before .before .wide .ensures .0,
+      c .before .before .before .before .wide2 .ensures .0,
+      c .before .before .before .bench-at .ensures,
       c .before .before .u32-at .ensures,
       c .before .u32-at2 .ensures,
       c .u32-at3 .ensures,
@@ -29,6 +30,7 @@ get-record-spec =
     (λ c κs. omega arith)
     (λ c. omega arith)
     (λ c. omega arith)
+    (λ c κs. omega arith)
     (λ c. omega arith)
     (λ c κs. omega arith)
     (λ c. omega arith)

@@ -1,4 +1,4 @@
--- Three bytes and three numbers, one after another. Assumes nothing.
+-- Four bytes and three numbers, one after another. Assumes nothing.
 use borrow.Author.Needs.{needs}
 use native.Mathlib.Omega.{arith}
 use mathlib.Core.Path.{_∙_}
@@ -12,6 +12,9 @@ slice-write-journal-2 c = simp length-set (omega arith)
 
 slice-write-journal-3 : tie.Need-slice-write-journal-3
 slice-write-journal-3 c = simp length-set (omega arith)
+
+slice-write-journal-4 : tie.Need-slice-write-journal-4
+slice-write-journal-4 c = simp length-set (omega arith)
 
 put-u32-requires : tie.Need-put-u32-requires
 put-u32-requires c κs = simp length-set (omega arith)
@@ -52,6 +55,8 @@ put-record-spec =
     (search needs)
     (search needs)
     slice-write-journal-3
+    (search needs)
+    slice-write-journal-4
     (search needs)
     put-u32-requires
     (search needs)

@@ -1,0 +1,4 @@
+pub mod Owners
+pub mod Shifts
+pub mod Loops
+pub mod Plain
