@@ -13,7 +13,7 @@ ghost use Rattle.border.specs.Loops.{wrongEdge, rule17, wrongTransition,
 ghost use Rattle.border.specs.Memory.{marksOf, wrongBy, unmarked};
 
 // The number of edge entries.
-fn edges_of(bytes: &[u8]) -> usize
+pub fn edges_of(bytes: &[u8]) -> usize
     requires { ⌜ RightHeader (now bytes) ⌝ }
     ensures { λ r. ⌜ (r ≡ (partsOf (now (bytes .entry)) .edges)) × (r ≤ 12288) ⌝ }
 {
@@ -29,7 +29,7 @@ fn loops_of(bytes: &[u8]) -> usize
 }
 
 // The half-edge of edge entry i.
-fn edge_of(bytes: &[u8], i: usize) -> usize
+pub fn edge_of(bytes: &[u8], i: usize) -> usize
     requires { ⌜ RightHeader (now bytes) × (i < (partsOf (now bytes) .edges)) ⌝ }
     ensures { λ r. ⌜ r ≡ edgeOf (partsOf (now (bytes .entry))) i ⌝ }
 {
@@ -37,7 +37,7 @@ fn edge_of(bytes: &[u8], i: usize) -> usize
 }
 
 // The transition of edge entry i.
-fn transition_of(bytes: &[u8], i: usize) -> u32
+pub fn transition_of(bytes: &[u8], i: usize) -> u32
     requires { ⌜ RightHeader (now bytes) × (i < (partsOf (now bytes) .edges)) ⌝ }
     ensures { λ r. ⌜ r ≡ transition (partsOf (now (bytes .entry))) i ⌝ }
 {
@@ -141,7 +141,7 @@ fn edges_verdict(bytes: &[u8], work: &mut [u8]) -> Answer
 }
 
 // Whether the transition of edge entry i is not -1 to 63.
-fn wrong_transition(bytes: &[u8], i: usize) -> bool
+pub fn wrong_transition(bytes: &[u8], i: usize) -> bool
     requires { ⌜ RightHeader (now bytes) × (i < (partsOf (now bytes) .edges)) ⌝ }
     ensures { λ r. ⌜ r ≡ wrongTransition (partsOf (now (bytes .entry))) i ⌝ }
 {

@@ -4,23 +4,27 @@ use mathlib.Core.List.{List, [], _∷_, _++_, append-assoc, append-nil}
 use Prim.Native.Nat.{ℕ, zero, suc, _+_, _*_, _-_, _≤_, _<_}
 use native.Mathlib.Numerals.{add-one}
 use native.Mathlib.Omega.{arith}
+use native.Mathlib.Decide.{ℕ-discrete}
 use lib.ListN.{length, getD, set, take, drop, length-append, length-drop, take-append-drop}
 use lib.Seq.{take-suc, take-all, take-add, ext-getD, getD-take, getD-drop, length-take-le, drop-drop}
 use Rattle.verdict.specs.Output.{over}
+use Rattle.verdict.proofs.Bools.{decided}
 use Rattle.verdict.proofs.Output.{over-is, over-none, length-over, drop-over, take-over}
 use Rattle.wire.specs.Bytes.{u32At, u32Bytes, put, putU32, Bytes}
 use Rattle.wire.specs.Words.{wordsAt, bytesOf, joined}
 use Rattle.wire.proofs.Put.{put-append, put-is}
 use Rattle.wire.proofs.Numbers.{length-u32}
 use Rattle.wire.proofs.Runs.{bytes-append, length-bytes, read-spelled, joined-append}
-use Rattle.tables.specs.Tables.{tableAt}
+use Rattle.tables.specs.Tables.{tableAt, width}
 use Rattle.tables.specs.Header.{magic, floorTables, RightHeader}
-use Rattle.tables.specs.Parts.{Parts, partsOf, tableOf, tableWords, wordsIn}
+use Rattle.tables.specs.Parts.{Parts, partsOf, tableOf, tableWords, countOf, wordsIn}
 use Rattle.tables.specs.Fixed.{startOf, fieldsOf, formOf, Sized}
 use Rattle.tables.proofs.Right.{header-met, header-sound}
 use Rattle.tables.proofs.Reading.{sized-of, table-is, count-is, table-inside}
-use Rattle.tables.proofs.Reform.{start-more, start-within, form-most, before-length}
-use Rattle.fixed.specs.Written.{formUpTo}
+use Rattle.tables.proofs.Floor.{nine, in-words}
+use Rattle.tables.proofs.Reform.{start-first, start-more, before-length}
+use Rattle.fixed.specs.Written.{numbersOf, countBy, startBy, fieldsBy, headBy, Few, formUpTo}
+use Rattle.fixed.specs.declared.Numbers.{Numbers}
 
 -- ---- bytes put where the written part ends
 
@@ -79,15 +83,31 @@ module _ (p : Parts) (h : Sized p) where
   unfolding formUpTo
   up-length k = omega (arith, length-bytes (1 ∷ (p .floats ++ (fieldsOf p ++ joined (take k (p .tables))))), before-length p h k)
 
+  -- the running position, by the counts
+  pub start-by : (k : ℕ) → k ≤ 9 → startBy (numbersOf p) k ≡ startOf p k
+  unfolding startBy numbersOf
+  start-by zero l = sym (start-first p h)
+  start-by (suc k) l =
+      let one : k + 1 ≡ suc k = omega arith in
+      ap (λ (n : ℕ). n + 4 * (countOf p k * width (tableAt floorTables k))) (unfold numbersOf in start-by k (omega arith)) ∙ sym (start-more p h k (omega arith)) ∙ ap (startOf p) one
+
+  pub few-numbers : Few (numbersOf p)
+  unfolding numbersOf
+  few-numbers = record { vertices = h .vertices; faces = h .faces; nodes = h .nodes; adjacency = omega (arith, h .adjacency, h .faces); edges = h .edges; perimeters = h .perimeters }
+
   pub up-all : formUpTo p 9 ≡ formOf p
   unfolding formUpTo formOf
   up-all = rw (take-all 9 (p .tables) (omega (arith, h .nine-tables)))
 
-  pub up-first : (magic ++ bytesOf (1 ∷ p .floats)) ++ bytesOf (fieldsOf p) ≡ formUpTo p 0
-  unfolding formUpTo joined
+  pub up-first : headBy (p .floats) (numbersOf p) ≡ formUpTo p 0
+  unfolding headBy numbersOf formUpTo joined
   up-first =
-      rw (append-nil (fieldsOf p))
+      rw (start-by 0 (omega arith), start-by 1 (omega arith), start-by 2 (omega arith), start-by 3 (omega arith), start-by 4 (omega arith), start-by 5 (omega arith), start-by 6 (omega arith), start-by 7 (omega arith), start-by 8 (omega arith), append-nil (fieldsOf p))
       (append-assoc magic (bytesOf (1 ∷ p .floats)) (bytesOf (fieldsOf p)) ∙ ap (λ (l : List ℕ). magic ++ l) (sym (bytes-append (1 ∷ p .floats) (fieldsOf p))))
+
+  -- a header made from the parts' own numbers
+  pub head-of : (n : Numbers) (o : List ℕ) {o₁ : List ℕ} → n ≡ numbersOf p → o₁ ≡ over (headBy (p .floats) n) o → o₁ ≡ over (formUpTo p 0) o
+  head-of n o e q = q ∙ ap (λ (d : List ℕ). over d o) (ap (headBy (p .floats)) e ∙ up-first)
 
   pub up-more : (k : ℕ) → k < 9 → formUpTo p k ++ bytesOf (tableOf p k) ≡ formUpTo p (k + 1)
   unfolding formUpTo joined
@@ -114,8 +134,20 @@ module _ (b : List ℕ) (r : RightHeader b) where
   pub start-next : (k : ℕ) → k < 9 → startOf (partsOf b) (k + 1) ≡ startOf (partsOf b) k + 4 * wordsIn b k
   start-next k l = rw (count-is b k l) at (start-more (partsOf b) (sized-of b r) k l)
 
-  pub start-few : (k : ℕ) → startOf (partsOf b) k ≤ 737372
-  start-few k = omega (arith, start-within (partsOf b) (sized-of b r) k, form-most (partsOf b) (sized-of b r))
+-- by few counts the running position stays under a form's greatest length
+pub start-few : (n : Numbers) → Few n → (k : ℕ) → k ≤ 9 → startBy n k ≤ 737372
+unfolding startBy
+start-few n f k l =
+    decided (ℕ-discrete k 9) (λ e. rw e (omega (arith, f)))
+    (λ ne. nine (λ j. startBy n j ≤ 737372) (omega (arith, f)) (omega (arith, f)) (omega (arith, f)) (omega (arith, f)) (omega (arith, f)) (omega (arith, f)) (omega (arith, f)) (omega (arith, f)) (omega (arith, f)) k (omega arith))
+
+pub start-by-more : (n : Numbers) (k : ℕ) → k < 9 → startBy n (k + 1) ≡ startBy n k + countBy n k * tableAt floorTables k .size
+unfolding startBy
+start-by-more n k l = let one : k + 1 ≡ suc k = omega arith in rw one (ap (λ (m : ℕ). startBy n k + m) (sym (in-words (countBy n k) k l)))
+
+-- no table has more than 12,288 entries
+pub count-few : (n : Numbers) → Few n → (k : ℕ) → k < 9 → countBy n k ≤ 12288
+count-few n f = nine (λ j. countBy n j ≤ 12288) (omega (arith, f)) (omega (arith, f)) (omega (arith, f)) (omega (arith, f)) (omega (arith, f)) (omega (arith, f)) (omega (arith, f)) (omega (arith, f)) (omega (arith, f))
 
 -- sixteen words in four parts
 fields-joined : (h f : List ℕ)
@@ -149,7 +181,7 @@ module _ (b : List ℕ) (r : RightHeader b) (y : Bytes b) where
       ∙ ap (λ (l : List ℕ). magic ++ l)
       (sym (read-spelled b y 16 8 (omega (arith, header-met b r))) ∙ ap (λ (w : ℕ). bytesOf (w ∷ wordsAt b 12 15)) (header-met b r .world))
 
-  table-read : (k : ℕ) → k < 9 → take (4 * wordsIn b k) (drop (u32At b (tableAt floorTables k .offset)) b) ≡ bytesOf (tableOf (partsOf b) k)
+  pub table-read : (k : ℕ) → k < 9 → take (4 * wordsIn b k) (drop (u32At b (tableAt floorTables k .offset)) b) ≡ bytesOf (tableOf (partsOf b) k)
   unfolding tableWords
   table-read k l = rw (table-is b k l) (part-read b y (u32At b (tableAt floorTables k .offset)) (wordsIn b k) (λ m. table-inside b r k l m .1))
 
@@ -164,14 +196,14 @@ module _ (b : List ℕ) (r : RightHeader b) (y : Bytes b) where
       ∙ ap (λ (d : List ℕ). over d o) (ap (λ (d : List ℕ). formUpTo p k ++ d) (table-read k l) ∙ up-more p h k l))
 
   -- the header
-  pub head-written : (o : List ℕ) {o₁ o₂ o₃ : List ℕ} → 136 ≤ length o → let f = fieldsOf (partsOf b) in
+  pub head-written : (n : Numbers) (o : List ℕ) {o₁ o₂ o₃ : List ℕ} → 136 ≤ length o → let f = fieldsBy n in
       o₁ ≡ put o 0 (take 72 (drop 0 b))
       → o₂ ≡ put (put o₁ 72 (bytesOf (take 4 f))) 88 (bytesOf (take 4 (drop 4 f)))
       → o₃ ≡ put (put o₂ 104 (bytesOf (take 4 (drop 8 f)))) 120 (bytesOf (drop 12 f))
-      → o₃ ≡ over (formUpTo (partsOf b) 0) o
-  head-written o l e₁ e₂ e₃ =
-      let p = partsOf b in
-      let f = fieldsOf p in
+      → o₃ ≡ over (headBy (partsOf b .floats) n) o
+  unfolding headBy
+  head-written nn o l e₁ e₂ e₃ =
+      let f = fieldsBy nn in
       let A = bytesOf (take 4 f) in
       let B = bytesOf (take 4 (drop 4 f)) in
       let C = bytesOf (take 4 (drop 8 f)) in
@@ -196,4 +228,4 @@ module _ (b : List ℕ) (r : RightHeader b) (y : Bytes b) where
         over-put ((H ++ A) ++ B) o C 104 m2 (omega arith),
         over-put (((H ++ A) ++ B) ++ C) o D 120 m3 (omega arith),
       )
-      (ap (λ (x : List ℕ). over x o) (fields-joined H f ∙ ap (λ (x : List ℕ). x ++ bytesOf f) head-read ∙ up-first p (sized-of b r)))
+      (ap (λ (x : List ℕ). over x o) (fields-joined H f ∙ ap (λ (x : List ℕ). x ++ bytesOf f) head-read))

@@ -8,9 +8,20 @@ ghost use Rattle.wire.specs.Bytes.{u32At, put};
 ghost use Rattle.wire.specs.Words.{bytesOf};
 ghost use Rattle.tables.specs.Tables.{tableAt};
 ghost use Rattle.tables.specs.Header.{floorTables, RightHeader};
-ghost use Rattle.tables.specs.Parts.{partsOf, countOf, wordsIn};
-ghost use Rattle.tables.specs.Fixed.{startOf, fieldsOf, formOf};
-ghost use Rattle.fixed.specs.Written.{formUpTo};
+ghost use Rattle.tables.specs.Parts.{partsOf, wordsIn};
+ghost use Rattle.tables.specs.Fixed.{formOf};
+ghost use Rattle.fixed.specs.Written.{numbersOf, countBy, startBy, fieldsBy, headBy, Few};
+
+// The counts and the root, from which the rest of a fixed form's header follows.
+pub struct Numbers {
+    pub vertices: usize,
+    pub faces: usize,
+    pub nodes: usize,
+    pub root: u32,
+    pub adjacency: usize,
+    pub edges: usize,
+    pub perimeters: usize,
+}
 
 // n bytes of src from `from`, over those of dst from `at`. Where n is 0 nothing is asked of `from`.
 fn copy_part(src: &[u8], from: usize, dst: &mut [u8], at: usize, n: usize)
@@ -24,24 +35,63 @@ fn copy_part(src: &[u8], from: usize, dst: &mut [u8], at: usize, n: usize)
     }
 }
 
-// How many bytes table k has.
-fn table_bytes(bytes: &[u8], k: usize) -> usize
-    requires { ⌜ RightHeader (now bytes) × (k < 9) ⌝ }
-    ensures { λ r. ⌜ r ≡ 4 * wordsIn (now (bytes .entry)) k ⌝ }
+// The counts and the root of a file.
+pub fn numbers_of(bytes: &[u8]) -> Numbers
+    requires { ⌜ RightHeader (now bytes) ⌝ }
+    ensures { λ r. ⌜ r ≡ numbersOf (partsOf (now (bytes .entry))) ⌝ }
 {
-    let s = tables::span_at(bytes, k);
-    s.stop - s.start
+    let vertices = tables::count_of(bytes, 0);
+    let faces = tables::count_of(bytes, 1);
+    let nodes = tables::count_of(bytes, 5);
+    let root = tables::root_of(bytes);
+    let adjacency = tables::count_of(bytes, 6);
+    let edges = tables::count_of(bytes, 7);
+    let perimeters = tables::count_of(bytes, 8);
+    Numbers {
+        vertices,
+        faces,
+        nodes,
+        root,
+        adjacency,
+        edges,
+        perimeters,
+    }
 }
 
-// Where table k starts in the fixed form.
-fn start_at(bytes: &[u8], k: usize) -> usize
-    requires { ⌜ RightHeader (now bytes) × (k ≤ 9) ⌝ }
-    ensures { λ r. ⌜ (r ≡ startOf (partsOf (now (bytes .entry))) k) × (r ≤ 737372) ⌝ }
+// How many entries table k has, by the counts.
+fn count_by(n: Numbers, k: usize) -> usize
+    requires { ⌜ k < 9 ⌝ }
+    ensures { λ r. ⌜ r ≡ countBy n k ⌝ }
+{
+    if k == 0 {
+        return n.vertices;
+    }
+    if k < 5 {
+        return n.faces;
+    }
+    if k == 5 {
+        return n.nodes;
+    }
+    if k == 6 {
+        return n.adjacency;
+    }
+    if k == 7 {
+        return n.edges;
+    }
+    n.perimeters
+}
+
+// Where table k starts in a fixed form with these counts; where a tenth would is the form's length.
+pub fn start_by(n: Numbers, k: usize) -> usize
+    requires { ⌜ Few n × (k ≤ 9) ⌝ }
+    ensures { λ r. ⌜ (r ≡ startBy n k) × (r ≤ 737372) ⌝ }
 {
     let mut at = 136;
     let mut j = 0;
     while j < k {
-        at += table_bytes(bytes, j);
+        let t = tables::table_at(j);
+        let size = t.size;
+        at += count_by(n, j) * size;
         j += 1;
     }
     at
@@ -52,23 +102,23 @@ pub fn form_length(bytes: &[u8]) -> usize
     requires { ⌜ RightHeader (now bytes) ⌝ }
     ensures { λ r. ⌜ (r ≡ length (formOf (partsOf (now (bytes .entry))))) × (r ≤ 737372) ⌝ }
 {
-    start_at(bytes, 9)
+    start_by(numbers_of(bytes), 9)
 }
 
-// Where table k starts in the fixed form, as a word.
-fn start_word(bytes: &[u8], k: usize) -> u32
-    requires { ⌜ RightHeader (now bytes) × (k ≤ 9) ⌝ }
-    ensures { λ r. ⌜ r ≡ startOf (partsOf (now (bytes .entry))) k ⌝ }
+// Where table k starts, as a word.
+fn start_word(n: Numbers, k: usize) -> u32
+    requires { ⌜ Few n × (k ≤ 9) ⌝ }
+    ensures { λ r. ⌜ r ≡ startBy n k ⌝ }
 {
-    start_at(bytes, k) as u32
+    start_by(n, k) as u32
 }
 
 // How many entries table k has, as a word.
-fn count_word(bytes: &[u8], k: usize) -> u32
-    requires { ⌜ RightHeader (now bytes) × (k < 9) ⌝ }
-    ensures { λ r. ⌜ r ≡ countOf (partsOf (now (bytes .entry))) k ⌝ }
+fn count_word(n: Numbers, k: usize) -> u32
+    requires { ⌜ Few n × (k < 9) ⌝ }
+    ensures { λ r. ⌜ r ≡ countBy n k ⌝ }
 {
-    tables::count_of(bytes, k) as u32
+    count_by(n, k) as u32
 }
 
 // Four words, one after the other.
@@ -82,47 +132,40 @@ fn put_four(out: &mut [u8], at: usize, a: u32, b: u32, c: u32, d: u32)
     wire::put_u32(out, at + 12, d);
 }
 
-// The counts, the root and the offsets of the fixed form, in four parts: the first two.
-fn put_fields(bytes: &[u8], out: &mut [u8])
-    requires { ⌜ RightHeader (now bytes) × (136 ≤ length (now out)) ⌝ }
-    ensures { λ _. ⌜ now (out .exit) ≡ put (put (now (out .entry)) 72 (bytesOf (take 4 (fieldsOf (partsOf (now (bytes .entry))))))) 88 (bytesOf (take 4 (drop 4 (fieldsOf (partsOf (now (bytes .entry))))))) ⌝ }
+// The counts, the root and the offsets of a fixed form, in four parts: the first two.
+fn put_fields(n: Numbers, out: &mut [u8])
+    requires { ⌜ Few n × (136 ≤ length (now out)) ⌝ }
+    ensures { λ _. ⌜ now (out .exit) ≡ put (put (now (out .entry)) 72 (bytesOf (take 4 (fieldsBy n)))) 88 (bytesOf (take 4 (drop 4 (fieldsBy n)))) ⌝ }
 {
-    let v = count_word(bytes, 0);
-    let f = count_word(bytes, 1);
-    put_four(out, 72, v, start_word(bytes, 0), f, start_word(bytes, 1));
-    let n = count_word(bytes, 5);
+    let v = count_word(n, 0);
+    let f = count_word(n, 1);
+    put_four(out, 72, v, start_word(n, 0), f, start_word(n, 1));
+    let nodes = count_word(n, 5);
     put_four(
         out,
         88,
-        start_word(bytes, 2),
-        start_word(bytes, 3),
-        start_word(bytes, 4),
-        n,
+        start_word(n, 2),
+        start_word(n, 3),
+        start_word(n, 4),
+        nodes,
     );
 }
 
 // The other two parts.
-fn put_more_fields(bytes: &[u8], out: &mut [u8])
-    requires { ⌜ RightHeader (now bytes) × (136 ≤ length (now out)) ⌝ }
-    ensures { λ _. ⌜ now (out .exit) ≡ put (put (now (out .entry)) 104 (bytesOf (take 4 (drop 8 (fieldsOf (partsOf (now (bytes .entry)))))))) 120 (bytesOf (drop 12 (fieldsOf (partsOf (now (bytes .entry)))))) ⌝ }
+fn put_more_fields(n: Numbers, out: &mut [u8])
+    requires { ⌜ Few n × (136 ≤ length (now out)) ⌝ }
+    ensures { λ _. ⌜ now (out .exit) ≡ put (put (now (out .entry)) 104 (bytesOf (take 4 (drop 8 (fieldsBy n))))) 120 (bytesOf (drop 12 (fieldsBy n))) ⌝ }
 {
-    let root = tables::root_of(bytes);
-    let a = count_word(bytes, 6);
-    put_four(
-        out,
-        104,
-        start_word(bytes, 5),
-        root,
-        a,
-        start_word(bytes, 6),
-    );
-    let e = count_word(bytes, 7);
-    let p = count_word(bytes, 8);
-    put_four(out, 120, e, start_word(bytes, 7), p, start_word(bytes, 8));
+    let root = n.root;
+    let a = count_word(n, 6);
+    put_four(out, 104, start_word(n, 5), root, a, start_word(n, 6));
+    let e = count_word(n, 7);
+    let p = count_word(n, 8);
+    put_four(out, 120, e, start_word(n, 7), p, start_word(n, 8));
 }
 
 // Table k, to `at`; where the next one goes.
-fn copy_table(bytes: &[u8], k: usize, out: &mut [u8], at: usize) -> usize
+pub fn copy_table(bytes: &[u8], k: usize, out: &mut [u8], at: usize) -> usize
     requires { ⌜ RightHeader (now bytes) × (k < 9) × (at + 4 * wordsIn (now bytes) k ≤ length (now out)) ⌝ }
     ensures { λ r. ⌜ (r ≡ at + 4 * wordsIn (now (bytes .entry)) k) × (now (out .exit) ≡ put (now (out .entry)) at (take (4 * wordsIn (now (bytes .entry)) k) (drop (u32At (now (bytes .entry)) (tableAt floorTables k .offset)) (now (bytes .entry))))) ⌝ }
 {
@@ -133,14 +176,14 @@ fn copy_table(bytes: &[u8], k: usize, out: &mut [u8], at: usize) -> usize
     at + n
 }
 
-// The form's header.
-fn write_head(bytes: &[u8], out: &mut [u8])
-    requires { ⌜ RightHeader (now bytes) × (136 ≤ length (now out)) ⌝ }
-    ensures { λ _. ⌜ now (out .exit) ≡ over (formUpTo (partsOf (now (bytes .entry))) 0) (now (out .entry)) ⌝ }
+// The header of a fixed form: the file's own first 72 bytes, then these counts, this root and the offsets that follow from them.
+pub fn write_head(bytes: &[u8], n: Numbers, out: &mut [u8])
+    requires { ⌜ RightHeader (now bytes) × Few n × (136 ≤ length (now out)) ⌝ }
+    ensures { λ _. ⌜ now (out .exit) ≡ over (headBy (partsOf (now (bytes .entry)) .floats) n) (now (out .entry)) ⌝ }
 {
     copy_part(bytes, 0, out, 0, 72);
-    put_fields(bytes, out);
-    put_more_fields(bytes, out);
+    put_fields(n, out);
+    put_more_fields(n, out);
 }
 
 // The fixed form, over the start of out.
@@ -148,7 +191,8 @@ pub fn write_form(bytes: &[u8], out: &mut [u8])
     requires { ⌜ RightHeader (now bytes) × (length (formOf (partsOf (now bytes))) ≤ length (now out)) ⌝ }
     ensures { λ _. ⌜ now (out .exit) ≡ over (formOf (partsOf (now (bytes .entry)))) (now (out .entry)) ⌝ }
 {
-    write_head(bytes, out);
+    let n = numbers_of(bytes);
+    write_head(bytes, n, out);
     let mut at = 136;
     let mut k = 0;
     while k < 9 {

@@ -10,6 +10,7 @@ use Rattle.verdict.specs.declared.Answer.{Answer}
 use Rattle.verdict.proofs.Verdict.{passed, unbroken, met, then-both}
 use Rattle.tables.specs.Header.{RightHeader}
 use Rattle.tables.specs.Parts.{Parts, partsOf, wordPlace}
+use Rattle.tables.specs.Fixed.{Sized}
 use Rattle.tables.proofs.Right.{header-sound, sound-header}
 use Rattle.tables.proofs.Reading.{sized-of}
 use Rattle.mesh.specs.Mesh.{Meshed}
@@ -17,10 +18,11 @@ use Rattle.mesh.proofs.Plain.{mesh-met, met-mesh}
 use Rattle.nodes.specs.Plain.{SoundNodes, Closed}
 use Rattle.nodes.proofs.Rule12.{nodes-met, met-nodes, sound-closed}
 use Rattle.tree.specs.Boxes.{rules13to14}
+use Rattle.tree.specs.Plain.{FloorTree, BoxesHold}
 use Rattle.tree.proofs.Theorem.{rule13-met, met-rule13}
 use Rattle.tree.proofs.Held.{boxes-met, met-boxes}
 use Rattle.border.proofs.Sound.{borders-sound, sound-borders}
-use Rattle.floor.specs.Groups.{rules7to12, rules15to19, rules13to19, rules1to19}
+use Rattle.floor.specs.Groups.{rules7to12, rules15to19, rules1to14, rules1to19}
 use Rattle.floor.specs.Reader.{rule20, readerVerdict}
 use Rattle.floor.specs.Sound.{Sound}
 use Rattle.floor.specs.Accepted.{Accepted}
@@ -40,15 +42,22 @@ shape-met b r z =
     let n = nodes-met (partsOf b) (h .1) in
     record { mesh = mesh-met (wordPlace b) (partsOf b) (s .adjacency) (h .0); nodes = n; closed = sound-closed (partsOf b) (s .faces) n }
 
--- all that rules 1 to 19 give
-pub all-met : (b : List ℕ) → rules1to19 b .number ≡ 0 → Accepted b
-unfolding rules1to19 rules13to19 rules15to19 rules13to14
-all-met b z =
+-- all that rules 1 to 14 give
+pub record Early (b : List ℕ) : Type 0 where
+  pub header : RightHeader b
+  pub sized : Sized (partsOf b)
+  pub mesh : Meshed (partsOf b)
+  pub nodes : SoundNodes (partsOf b)
+  pub closed : Closed (partsOf b)
+  pub tree : FloorTree (partsOf b)
+  pub boxes : BoxesHold (partsOf b)
+
+pub early-met : (b : List ℕ) → rules1to14 b .number ≡ 0 → Early b
+unfolding rules1to14 rules13to14
+early-met b z =
     let h1 = passed _ _ z in
     let h2 = passed _ _ (h1 .1) in
-    let h3 = passed _ _ (h2 .1) in
-    let t = passed _ _ (h3 .0) in
-    let h4 = passed _ _ (h3 .1) in
+    let t = passed _ _ (h2 .1) in
     let s = sized-of b (h1 .0) in
     let shape = shape-met b (h1 .0) (h2 .0) in
     record {
@@ -59,7 +68,24 @@ all-met b z =
       closed = shape .closed;
       tree = rule13-met (partsOf b) (shape .nodes .count) (shape .closed) (t .0);
       boxes = boxes-met (partsOf b) (s .faces) (t .1);
-      borders = borders-sound (partsOf b) (h4 .0) (h4 .1);
+    }
+
+-- all that rules 1 to 19 give
+pub all-met : (b : List ℕ) → rules1to19 b .number ≡ 0 → Accepted b
+unfolding rules1to19 rules15to19
+all-met b z =
+    let h = passed _ _ z in
+    let e = early-met b (h .0) in
+    let k = passed _ _ (h .1) in
+    record {
+      header = e .header;
+      sized = e .sized;
+      mesh = e .mesh;
+      nodes = e .nodes;
+      closed = e .closed;
+      tree = e .tree;
+      boxes = e .boxes;
+      borders = borders-sound (partsOf b) (k .0) (k .1);
     }
 
 -- ---- THE BRIDGE: what acceptance gives
@@ -83,17 +109,19 @@ room-enough : (room : ℕ) → workSize ≤ room → rule20 room ≡ accepted
 unfolding rule20
 room-enough room l = rw (le-ltb room workSize l) (met 20 0)
 
-sound-all : (b : List ℕ) → Sound b → rules1to19 b ≡ accepted
-unfolding rules1to19 rules7to12 rules13to19 rules15to19 rules13to14
-sound-all b s =
+pub sound-early : (b : List ℕ) → Sound b → rules1to14 b ≡ accepted
+unfolding rules1to14 rules7to12 rules13to14
+sound-early b s =
     let p = partsOf b in
     let h = sound-header b (s .header) in
     let few = sized-of b (ap (λ (a : Answer). a .number) h) .faces in
-    let c = sound-closed p few (s .nodes) in
-    let e = sound-borders p (s .borders) in
     then-both h
     (then-both (then-both (met-mesh (wordPlace b) p (s .mesh)) (met-nodes p (s .nodes)))
-    (then-both (then-both (met-rule13 p c (s .tree)) (met-boxes p few (s .nodes .kinds) (s .boxes))) (then-both (e .0) (e .1))))
+    (then-both (met-rule13 p (sound-closed p few (s .nodes)) (s .tree)) (met-boxes p few (s .nodes .kinds) (s .boxes))))
+
+sound-all : (b : List ℕ) → Sound b → rules1to19 b ≡ accepted
+unfolding rules1to19 rules15to19
+sound-all b s = let e = sound-borders (partsOf b) (s .borders) in then-both (sound-early b s) (then-both (e .0) (e .1))
 
 pub sound-accepted : (b : List ℕ) (room : ℕ) → workSize ≤ room → Sound b → readerVerdict b room ≡ accepted
 sound-accepted b room l s = by-groups b room ∙ then-both (room-enough room l) (sound-all b s)

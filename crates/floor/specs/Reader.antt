@@ -24,9 +24,9 @@ use Rattle.floor.specs.declared.Floor.{Floor}
 unfoldable pub rule20 : ℕ → Answer
 rule20 room = rule 20 (ltb room workSize) 0
 
--- 7 to 19, of the parts; `place` tells where a word of a table lies
-unfoldable pub partRules : (ℕ → ℕ → ℕ) → Parts → List Answer
-partRules place p =
+-- 7 to 15, of the parts; `place` tells where a word of a table lies
+unfoldable pub earlyRules : (ℕ → ℕ → ℕ) → Parts → List Answer
+earlyRules place p =
     rule7 place p ∷
     rule8 p ∷
     rule9 p ∷
@@ -35,15 +35,19 @@ partRules place p =
     rule12 p ∷
     rule13 p ∷
     rule14 p ∷
-    rule15 p ∷
-    rule16 p ∷
-    rule17 p ∷
-    rule18 p ∷
-    rule19 p ∷ []
+    rule15 p ∷ []
+
+-- 7 to 19
+unfoldable pub partRules : (ℕ → ℕ → ℕ) → Parts → List Answer
+partRules place p = earlyRules place p ++ (rule16 p ∷ rule17 p ∷ rule18 p ∷ rule19 p ∷ [])
 
 -- the reader's refusals, in order: 20, 1 to 6, 7 to 19
 unfoldable pub readerRules : List ℕ → ℕ → List Answer
 readerRules b room = rule20 room ∷ (headerRules b ++ partRules (wordPlace b) (partsOf b))
+
+-- the reader's but 16 to 19, in order
+unfoldable pub earlyReaderRules : List ℕ → ℕ → List Answer
+earlyReaderRules b room = rule20 room ∷ (headerRules b ++ earlyRules (wordPlace b) (partsOf b))
 
 unfoldable pub readerVerdict : List ℕ → ℕ → Answer
 readerVerdict b room = inOrder (readerRules b room)

@@ -8,11 +8,9 @@ ghost use Rattle.verdict.specs.Memory.{workSize, SamePast};
 ghost use Rattle.tables.specs.Header.{RightHeader};
 ghost use Rattle.tables.specs.Parts.{partsOf, wordPlace};
 ghost use Rattle.verdict.specs.Verdict.{accepted};
-ghost use Rattle.mesh.specs.Mesh.{Finite, Cornered};
-ghost use Rattle.nodes.specs.Plain.{Closed};
 ghost use Rattle.floor.specs.Reader.{readerVerdict, walkableFaces, answerOf, readerAnswer, readerMemory};
 ghost use Rattle.floor.specs.Rewrite.{rewriteVerdict, rewriteAnswer, rewriteMemory};
-ghost use Rattle.floor.specs.Groups.{rules7to12, rules15to19, rules13to19, rules1to19};
+ghost use Rattle.floor.specs.Groups.{rules7to12, rules15to19, rules1to14, rules1to15, rules1to19};
 
 // What the reader answers: a number, a place, and the counts, which are 0 on refusal.
 #[repr(C)]
@@ -47,24 +45,10 @@ fn borders_verdict(bytes: &[u8], work: &mut [u8]) -> Answer
     border::loops_verdict(bytes, work)
 }
 
-// Rules 13 to 19 of a floor whose rules 7 to 12 were accepted.
-fn tree_and_borders(bytes: &[u8], work: &mut [u8]) -> Answer
-    requires shaped { ⌜ Finite (partsOf (now bytes)) × Cornered (partsOf (now bytes)) × Closed (partsOf (now bytes)) ⌝ }
-    requires room { ⌜ RightHeader (now bytes) × (workSize ≤ length (now work)) ⌝ }
-    ensures answer { λ r. ⌜ r ≡ rules13to19 (partsOf (now (bytes .entry))) ⌝ }
-    ensures memory { λ _. ⌜ SamePast (now (work .exit)) (now (work .entry)) ⌝ }
-{
-    let tree = tree::tree_verdict(bytes, work);
-    if tree.number != 0 {
-        return tree;
-    }
-    borders_verdict(bytes, work)
-}
-
-// Rules 1 to 19, with work memory enough.
-fn floor_verdict(bytes: &[u8], work: &mut [u8]) -> Answer
+// Rules 1 to 14, with work memory enough.
+fn rules_1_to_14(bytes: &[u8], work: &mut [u8]) -> Answer
     requires { ⌜ workSize ≤ length (now work) ⌝ }
-    ensures answer { λ r. ⌜ r ≡ rules1to19 (now (bytes .entry)) ⌝ }
+    ensures answer { λ r. ⌜ r ≡ rules1to14 (now (bytes .entry)) ⌝ }
     ensures memory { λ _. ⌜ SamePast (now (work .exit)) (now (work .entry)) ⌝ }
 {
     let header = header::header_verdict(bytes);
@@ -75,7 +59,33 @@ fn floor_verdict(bytes: &[u8], work: &mut [u8]) -> Answer
     if shape.number != 0 {
         return shape;
     }
-    tree_and_borders(bytes, work)
+    tree::tree_verdict(bytes, work)
+}
+
+// Rules 1 to 15, with work memory enough.
+pub fn rules_1_to_15(bytes: &[u8], work: &mut [u8]) -> Answer
+    requires { ⌜ workSize ≤ length (now work) ⌝ }
+    ensures answer { λ r. ⌜ r ≡ rules1to15 (now (bytes .entry)) ⌝ }
+    ensures memory { λ _. ⌜ SamePast (now (work .exit)) (now (work .entry)) ⌝ }
+{
+    let early = rules_1_to_14(bytes, work);
+    if early.number != 0 {
+        return early;
+    }
+    pairs::runs_verdict(bytes, work)
+}
+
+// Rules 1 to 19, with work memory enough.
+fn floor_verdict(bytes: &[u8], work: &mut [u8]) -> Answer
+    requires { ⌜ workSize ≤ length (now work) ⌝ }
+    ensures answer { λ r. ⌜ r ≡ rules1to19 (now (bytes .entry)) ⌝ }
+    ensures memory { λ _. ⌜ SamePast (now (work .exit)) (now (work .entry)) ⌝ }
+{
+    let early = rules_1_to_14(bytes, work);
+    if early.number != 0 {
+        return early;
+    }
+    borders_verdict(bytes, work)
 }
 
 // The reader's refusals. The rules use the work memory as they like; here, once, it is made zero. What lies past it is as it was.

@@ -5,3 +5,4 @@ pub mod Patterns
 pub mod Finite
 pub mod Nudges
 pub mod Answers
+pub mod Equal

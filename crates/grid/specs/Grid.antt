@@ -12,6 +12,10 @@ finite nan = false
 finite (inf s) = false
 finite (fin s m e) = true
 
+-- a float's word with zero's for minus zero's: two finite floats are equal by comparison exactly where these are one (proofs/Equal, eq-plain)
+unfoldable pub plain : ℕ → ℕ
+plain w = cond (eqb w 2147483648) 0 w
+
 -- n with a sign, negative where s is true; negative zero counts as zero
 abbrev pub signed : Bool → ℕ → ℤ
 signed s n = cond s (negℤ (pos n)) (pos n)

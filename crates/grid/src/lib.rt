@@ -2,7 +2,7 @@
 ghost use mathlib.Core.Path.{_≡_};
 ghost use mathlib.Core.Bool.{true};
 ghost use lib.Ieee.{binary32, ofBits};
-ghost use Rattle.grid.specs.Grid.{finite, within, gridFloat, mayNudge, nudgeBits};
+ghost use Rattle.grid.specs.Grid.{finite, plain, within, gridFloat, mayNudge, nudgeBits};
 ghost use Rattle.grid.specs.Answers.{sizeAt, scaledAt, nudgedAt};
 
 // Whether a float is on the grid, and its size in sixty-fourths.
@@ -124,6 +124,16 @@ pub fn is_finite(b: u32) -> bool
     ensures { λ r. ⌜ r ≡ finite (ofBits binary32 b) ⌝ }
 {
     b % 2147483648 < 2139095040
+}
+
+// The word of a float, with zero's for minus zero's.
+pub fn plain_of(b: u32) -> u32
+    ensures { λ r. ⌜ r ≡ plain b ⌝ }
+{
+    if b == 2147483648 {
+        return 0;
+    }
+    b
 }
 
 // The float with some bits.

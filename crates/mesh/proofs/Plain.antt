@@ -76,7 +76,7 @@ module _ (place : ℕ → ℕ → ℕ) (p : Parts) where
         box = table-finite place p 5 6 (p4 .1);
       }
 
-  finite-all : Finite p → rule7 place p ≡ accepted
+  pub finite-all : Finite p → rule7 place p ≡ accepted
   unfolding rule7 wildHead
   finite-all f =
       then-both
@@ -111,14 +111,14 @@ module _ (p : Parts) (f : ℕ) where
   unfolding wrongCorner
   right-corner e l n = false-or _ _ (lt-leb (p .vertices) (corner p f e) l) (ne-eqb _ _ n)
 
-all-cornered : (p : Parts) → rule8 p .number ≡ 0 → Cornered p
+pub all-cornered : (p : Parts) → rule8 p .number ≡ 0 → Cornered p
 unfolding rule8 wrongCorners
 all-cornered p z = record { under = λ f e l m. right f l e m .0; three = λ f l. (right f l 0 (omega arith) .1, right f l 1 (omega arith) .1, right f l 2 (omega arith) .1) }
   where
     right : (f : ℕ) → f < p .faces → (e : ℕ) → e < 3 → (corner p f e < p .vertices) × (corner p f e ≡ corner p f ((e + 1) % 3) → ⊥)
     right f l e m = corner-right p f e (none-under (wrongCorner p f) 3 (each-met 7 (p .faces) (wrongCorners p) (λ j. j) z f l) e m)
 
-cornered-all : (p : Parts) → Cornered p → rule8 p ≡ accepted
+pub cornered-all : (p : Parts) → Cornered p → rule8 p ≡ accepted
 unfolding rule8 wrongCorners
 cornered-all p c =
     each-passes 8 (p .faces) (wrongCorners p) (λ j. j)
@@ -160,7 +160,7 @@ module _ (p : Parts) where
       over : (f : ℕ) → f < p .adjacency → Walkable (material p f)
       over f l = test-walkable (material p f) (not-false (walkable (material p f)) (misplaced-under p f l ∙ placed y f (omega arith)))
 
-  painted-all : Painted p → (rule9 p ≡ accepted) × (rule10 p ≡ accepted)
+  pub painted-all : Painted p → (rule9 p ≡ accepted) × (rule10 p ≡ accepted)
   unfolding rule10
   painted-all q = (of-known (q .known), each-passes 10 (p .faces) (misplaced p) (λ j. j) right)
     where

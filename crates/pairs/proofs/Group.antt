@@ -15,6 +15,11 @@ use Rattle.pairs.specs.Plain.{Apart}
 use Rattle.pairs.proofs.Paired.{apart-of, apart-met}
 
 module _ (p : Parts) where
+  -- 15 alone
+  pub repeat-answers : (n twice : ℕ) (r : Answer) → n ≡ halves p → twice ≡ lowest (halves p) (repeats p) → r ≡ rule 15 (ltb twice n) twice → r ≡ rule15 p
+  unfolding rule15 ruleOfEach
+  repeat-answers n twice r e f q = cc
+
   -- 15 is broken: 16 is not asked
   pub repeat-stops : (twice : ℕ) (r : Answer) → twice ≡ lowest (halves p) (repeats p) → twice < halves p → r ≡ rule 15 true twice → r ≡ rules15to16 p
   unfolding rules15to16 rule15 rule

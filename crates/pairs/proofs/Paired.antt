@@ -110,6 +110,11 @@ module _ (p : Parts) where
       true-and (ltb h (halves p)) (not (ltb (partner p h) (halves p))) (lt-ltb h (halves p) (b .inside))
       (not-of-false (ltb (partner p h) (halves p)) (le-ltb (partner p h) (halves p) (alone-none h (b .alone))))
 
+  -- a half-edge that is no border has a partner
+  pub partner-in : (h : ℕ) → h < halves p → border p h ≡ false → partner p h < halves p
+  partner-in h l y =
+      decided (decLt (partner p h) (halves p)) (λ i. i) (λ i. clash (border-to h (record { inside = l; alone = partner-none h (omega arith) })) y)
+
   -- ---- 16: what the adjacency entry should be
 
   pub pairing-some : (h : ℕ) → partner p h < halves p → pairing p h ≡ partner p h

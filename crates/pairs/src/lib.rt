@@ -5,11 +5,12 @@ ghost use Prim.Native.Nat.{_+_, _/_, _%_, _<_, _≤_};
 ghost use lib.ListN.{length};
 ghost use Rattle.verdict.specs.Lowest.{lowest, anyUnder};
 ghost use Rattle.verdict.specs.Memory.{workSize, SamePast};
+ghost use Rattle.chains.specs.Chains.{Chained};
 ghost use Rattle.tables.specs.Header.{RightHeader};
 ghost use Rattle.tables.specs.Parts.{partsOf, adjacentTo};
-ghost use Rattle.pairs.specs.Halves.{halves, from, to, runs, repeats, border, wrongAdjacent, rules15to16, RightPairs};
+ghost use Rattle.pairs.specs.Halves.{halves, from, to, runs, repeats, border, wrongAdjacent, rule15, rules15to16, RightPairs};
 ghost use Rattle.pairs.specs.Plain.{Apart};
-ghost use Rattle.pairs.specs.Chains.{chains, chainOf, Chained, withLast};
+ghost use Rattle.pairs.specs.Chains.{chains, chainOf, chain};
 
 // How many chains of half-edges stand in the work memory.
 const CHAINS: usize = 16384;
@@ -81,34 +82,24 @@ fn chain_of(a: usize, b: usize) -> usize
 // Whether a half-edge under s runs from vertex a to vertex b. No others are chained, so s is named for the promise alone.
 fn is_run(bytes: &[u8], work: &[u8], s: usize, a: usize, b: usize) -> bool
     requires { ⌜ RightHeader (now bytes) × (s ≤ halves (partsOf (now bytes))) × (a < 4294967296) × (b < 4294967296) ⌝ }
-    requires chained { ⌜ (workSize ≤ length (now work)) × Chained (partsOf (now bytes)) (now work) s ⌝ }
+    requires chained { ⌜ (workSize ≤ length (now work)) × Chained chains (chain (partsOf (now bytes))) (now work) s ⌝ }
     ensures { λ r. ⌜ r ≡ anyUnder s (runs (partsOf (now (bytes .entry))) a b) ⌝ }
 {
-    let mut g = wire::u16_at(work, 2 * chain_of(a, b));
+    let mut g = chains::last_of(work, chain_of(a, b));
     while 0 < g {
         if runs_so(bytes, a, b, g - 1) {
             return true;
         }
-        g = wire::u16_at(work, 2 * (CHAINS + (g - 1)));
+        g = chains::before_of(work, CHAINS, g - 1);
     }
     false
-}
-
-// Puts half-edge h last in chain v.
-fn put_last(work: &mut [u8], v: usize, h: usize)
-    requires { ⌜ (v < chains) × (h < 12288) × (workSize ≤ length (now work)) ⌝ }
-    ensures { λ _. ⌜ now (work .exit) ≡ withLast (now (work .entry)) v h ⌝ }
-{
-    let before = wire::u16_at(work, 2 * v);
-    wire::put_u16(work, 2 * (CHAINS + h), before);
-    wire::put_u16(work, 2 * v, h + 1);
 }
 
 // Chains the half-edges one by one, up to the first that runs as a lower one.
 fn first_repeat(bytes: &[u8], work: &mut [u8]) -> usize
     requires { ⌜ RightHeader (now bytes) × (workSize ≤ length (now work)) ⌝ }
     ensures answer { λ r. ⌜ r ≡ lowest (halves (partsOf (now (bytes .entry)))) (repeats (partsOf (now (bytes .entry)))) ⌝ }
-    ensures memory { λ r. ⌜ Chained (partsOf (now (bytes .entry))) (now (work .exit)) r × SamePast (now (work .exit)) (now (work .entry)) ⌝ }
+    ensures memory { λ r. ⌜ Chained chains (chain (partsOf (now (bytes .entry)))) (now (work .exit)) r × SamePast (now (work .exit)) (now (work .entry)) ⌝ }
 {
     let n = halves_of(bytes);
     verdict::clear_to(work, 2 * CHAINS);
@@ -119,7 +110,7 @@ fn first_repeat(bytes: &[u8], work: &mut [u8]) -> usize
         if is_run(bytes, work, h, a, b) {
             return h;
         }
-        put_last(work, chain_of(a, b), h);
+        chains::put_last(work, CHAINS, chain_of(a, b), h);
         h += 1;
     }
     n
@@ -129,7 +120,7 @@ fn first_repeat(bytes: &[u8], work: &mut [u8]) -> usize
 // does; only for -1 is a partner looked for.
 fn wrong_adjacent(bytes: &[u8], work: &[u8], h: usize) -> bool
     requires { ⌜ RightHeader (now bytes) × (h < halves (partsOf (now bytes))) × Apart (partsOf (now bytes)) ⌝ }
-    requires chained { ⌜ (workSize ≤ length (now work)) × Chained (partsOf (now bytes)) (now work) (halves (partsOf (now bytes))) ⌝ }
+    requires chained { ⌜ (workSize ≤ length (now work)) × Chained chains (chain (partsOf (now bytes))) (now work) (halves (partsOf (now bytes))) ⌝ }
     ensures { λ r. ⌜ r ≡ wrongAdjacent (partsOf (now (bytes .entry))) h ⌝ }
 {
     let n = halves_of(bytes);
@@ -148,7 +139,7 @@ fn wrong_adjacent(bytes: &[u8], work: &[u8], h: usize) -> bool
 
 fn first_wrong_adjacent(bytes: &[u8], work: &[u8]) -> usize
     requires { ⌜ RightHeader (now bytes) × Apart (partsOf (now bytes)) ⌝ }
-    requires chained { ⌜ (workSize ≤ length (now work)) × Chained (partsOf (now bytes)) (now work) (halves (partsOf (now bytes))) ⌝ }
+    requires chained { ⌜ (workSize ≤ length (now work)) × Chained chains (chain (partsOf (now bytes))) (now work) (halves (partsOf (now bytes))) ⌝ }
     ensures { λ r. ⌜ r ≡ lowest (halves (partsOf (now (bytes .entry)))) (wrongAdjacent (partsOf (now (bytes .entry)))) ⌝ }
 {
     let n = halves_of(bytes);
@@ -160,6 +151,17 @@ fn first_wrong_adjacent(bytes: &[u8], work: &[u8]) -> usize
         h += 1;
     }
     n
+}
+
+// Rule 15.
+pub fn runs_verdict(bytes: &[u8], work: &mut [u8]) -> Answer
+    requires { ⌜ RightHeader (now bytes) × (workSize ≤ length (now work)) ⌝ }
+    ensures answer { λ r. ⌜ r ≡ rule15 (partsOf (now (bytes .entry))) ⌝ }
+    ensures memory { λ _. ⌜ SamePast (now (work .exit)) (now (work .entry)) ⌝ }
+{
+    let n = halves_of(bytes);
+    let twice = first_repeat(bytes, work);
+    verdict::first_rule(15, twice < n, twice as u32)
 }
 
 // Rules 15 and 16.

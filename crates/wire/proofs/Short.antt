@@ -6,8 +6,8 @@ use mathlib.Core.List.{List, [], _∷_}
 use native.Mathlib.Omega.{arith}
 use native.Mathlib.Nat.{add-zero}
 use native.Mathlib.Numerals.{add-one}
-use lib.ListN.{length, getD, set, drop}
-use lib.Seq.{drop-set-lt}
+use lib.ListN.{length, getD, set, take, drop}
+use lib.Seq.{getD-drop, drop-set-lt, take-set-le}
 use Rattle.wire.specs.Bytes.{u16At, u16Bytes, put, putU16}
 use Rattle.wire.proofs.Put.{length-put, put-other, put-in}
 
@@ -52,3 +52,16 @@ pub drop-put-u16 : (n : ℕ) (b : List ℕ) (at w : ℕ) → at + 2 ≤ n → dr
 drop-put-u16 n b at w h =
     ap (drop n) (sym (two-stores b at w)) ∙ drop-set-lt n (set b at (w % 256)) (at + 1) (w / 256 % 256) (omega arith)
     ∙ drop-set-lt n b at (w % 256) (omega arith)
+
+-- what lies before the number is kept
+pub take-put-u16 : (n : ℕ) (b : List ℕ) (at w : ℕ) → n ≤ at → take n (putU16 b at w) ≡ take n b
+take-put-u16 n b at w h =
+    ap (take n) (sym (two-stores b at w)) ∙ take-set-le n (set b at (w % 256)) (at + 1) (w / 256 % 256) (omega arith)
+    ∙ take-set-le n b at (w % 256) h
+
+-- a number past a place, read in what lies past it
+pub u16-drop : (n : ℕ) (b : List ℕ) (at : ℕ) → u16At b (n + at) ≡ u16At (drop n b) at
+unfolding u16At
+u16-drop n b at =
+    let e : n + at + 1 ≡ n + (at + 1) = omega arith in
+    rw (getD-drop n b at 0, getD-drop n b (at + 1) 0, e)

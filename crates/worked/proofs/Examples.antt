@@ -12,6 +12,7 @@ use borrow.Author.Tests.{le-ltb, lt-ltb, ltb-true, eqb-true}
 use Rattle.verdict.specs.Lowest.{lowest, highest, anyUnder, allUnder}
 use Rattle.verdict.specs.Lists.{times, tally, once}
 use Rattle.verdict.specs.Verdict.{rule, ruleOfEach, _then_, inOrder, refused, accepted}
+use Rattle.verdict.specs.declared.Answer.{Answer}
 use Rattle.verdict.specs.Memory.{workSize}
 use Rattle.verdict.specs.Output.{over, formAnswer, formMemory}
 use Rattle.verdict.proofs.Bools.{T-true, true-T, and-true}
@@ -34,8 +35,8 @@ use Rattle.tree.specs.Visits.{visitedCount, visited, shown, above}
 use Rattle.tree.specs.Boxes.{boxOf, holdsCorner, holdsFace, holdsChildren, tooSmall, rule14}
 use Rattle.pairs.specs.Halves.{from, to, runs, repeats, partner, border, pairing, wrongAdjacent, rule15, rule16}
 use Rattle.border.specs.Loops.{standsIn, wrongEdge, missing, rule17, wrongTransition, rule18, loopStart, after, openAt, openRun, wrongLoop, rule19}
-use Rattle.floor.specs.Groups.{rules1to19}
-use Rattle.floor.specs.Reader.{rule20, partRules, readerRules, readerVerdict, walkableFaces, answerOf, readerAnswer}
+use Rattle.floor.specs.Groups.{rules15to19, rules1to14, rules1to19}
+use Rattle.floor.specs.Reader.{rule20, earlyRules, partRules, readerRules, readerVerdict, walkableFaces, answerOf, readerAnswer}
 use Rattle.floor.specs.Rewrite.{fixedForm, rewriteVerdict, rewriteAnswer, rewriteMemory}
 use Rattle.floor.proofs.Order.{by-groups}
 use Rattle.record.specs.Record.{recordBytes, recordAt}
@@ -52,11 +53,11 @@ use Rattle.worked.specs.Worked.{Deed, read, rewrite, pair, ask, call, nu
 -- ---- a file that is too long, without its bytes
 
 long-verdict : (b : List ℕ) → 1048576 < length b → readerVerdict b workSize ≡ refused 1 0
-unfolding wrongLength rules1to19 rule20 rule
+unfolding wrongLength rules1to14 rules1to19 rule20 rule
 long-verdict b l =
     by-groups b workSize
     ∙ rw (wrong-long b (rw (le-ltb (length b) 136 (omega arith), lt-ltb 1048576 (length b) l)), then-next accepted)
-    (then-stop (refused 1 0) (λ z. omega arith) _)
+    (ap (λ (a : Answer). a then rules15to19 (partsOf b)) (then-stop (refused 1 0) (λ z. omega arith) _) ∙ then-stop (refused 1 0) (λ z. omega arith) _)
 
 long-answer : (b : List ℕ) → 1048576 < length b → told (readerAnswer b workSize) ≡ 1 ∷ 0 ∷ 0 ∷ 0 ∷ 0 ∷ 0 ∷ []
 unfolding readerAnswer answerOf
@@ -123,7 +124,7 @@ computed : T (tested worked)
 unfolding worked triangle square tested quick gives same
     bytesOf u32Bytes u32At wordsAt rule ruleOfEach _then_ lowest anyUnder allUnder times tally once
     rewriteAnswer rewriteMemory rewriteVerdict fixedForm formAnswer formMemory over formOf startOf joined
-    readerAnswer answerOf readerVerdict readerRules partRules walkableFaces rule20 rule1 rule2 rule3 rule4 limit rule5 rule6 wrongLength startsWrong differs outsideAt outside spanOf shares sharesEarlier
+    readerAnswer answerOf readerVerdict readerRules earlyRules partRules walkableFaces rule20 rule1 rule2 rule3 rule4 limit rule5 rule6 wrongLength startsWrong differs outsideAt outside spanOf shares sharesEarlier
     partsOf tableWords wordOf wordPlace rule7 rule7In wild wildHead wildIn finite ofBits rule8 wrongCorners wrongCorner rule9 strange rule10 misplaced walkable
     rule11 strayRoot rule12 neither isLeaf isInner isPlane nodesOf rule13 oneTree deep ends leafFaces rule14 tooSmall holdsChildren holdsFace holdsCorner boxOf boxOfBits holdsPoint holdsBox between noneOver le lt eq
     rule15 rule16 repeats partner runs from to wrongAdjacent pairing border rule17 standsIn wrongEdge missing rule18 wrongTransition rule19 wrongLoop loopStart openRun openAt after

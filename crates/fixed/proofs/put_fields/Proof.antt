@@ -1,12 +1,10 @@
 -- Two times four numbers. Assumes nothing.
 use borrow.Author.Needs.{needs}
-use Rattle.tables.specs.Parts.{partsOf}
 use Rattle.fixed.proofs.Parted.{four-alike, put-twice}
 use Rattle.fixed.proofs.put_fields.Statement.{statement}
 use Rattle.fixed.proofs.put_fields.Tie as tie
 
 returns : tie.Need-returns
-unfolding partsOf
 returns c =
     let two = c .before .before in
     let one = two .before .before .before .before .before .before .before .before in
@@ -15,4 +13,4 @@ returns c =
     (four-alike (two .before .before .before .start-word3 .ensures) (two .before .before .start-word4 .ensures) (two .before .start-word5 .ensures) (two .before .before .before .before .before .count-word3 .ensures))
 
 pub put-fields-spec : {M : Type 1} → statement M
-put-fields-spec = tie.close (tie.spec (search needs) (search needs) (search needs) (search needs) (search needs) (search needs) (search needs) (search needs) (search needs) (search needs) (search needs) returns)
+put-fields-spec = tie.close (tie.spec (λ c κs. search needs) (λ c κs. search needs) (λ c κs. search needs) (λ c κs. search needs) (λ c κs. search needs) (λ c κs. search needs) (λ c κs. search needs) (λ c κs. search needs) (λ c κs. search needs) (λ c κs. search needs) (search needs) returns)

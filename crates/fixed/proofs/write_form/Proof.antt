@@ -13,7 +13,7 @@ use Rattle.tables.specs.Fixed.{startOf, formOf}
 use Rattle.tables.proofs.Reading.{sized-of}
 use Rattle.tables.proofs.Reform.{start-first, start-least, start-mono, whole-length, length-form}
 use Rattle.fixed.specs.Written.{formUpTo}
-use Rattle.fixed.proofs.Parted.{up-length, up-all, start-next, table-written}
+use Rattle.fixed.proofs.Parted.{up-length, up-all, head-of, few-numbers, start-next, table-written}
 use Rattle.fixed.proofs.write_form.Statement.{statement}
 use Rattle.fixed.proofs.write_form.Tie as tie
 
@@ -33,19 +33,20 @@ room s =
 
 write-head-requires : tie.Need-write-head-requires Inv-loop μ-loop
 write-head-requires c κs =
-    let s = c .before .before .before in
-    (s .pre .0, omega (arith, room s, start-least (partsOf (now (s .args .bytes))) (sized-of _ (s .pre .0)) 9))
+    let s = c .before .before .before .before in
+    (s .pre .0, rw (c .before .numbers-of .ensures) (few-numbers _ (sized-of (now (s .args .bytes)) (s .pre .0))), omega (arith, room s, start-least (partsOf (now (s .args .bytes))) (sized-of _ (s .pre .0)) 9))
 
 loop-holds : tie.Need-loop-holds Inv-loop μ-loop
 loop-holds c =
-    let s = c .before .before .before .before .before .before in
-    let w = c .before .before .write-head in
+    let w = c .before .before in
+    let s = w .before .before .before .before .before in
     let b = now (s .args .bytes) in
-    (sym (ap (over (formUpTo (partsOf b) 0)) (w .ensures) ∙ over-over _ _ (now (s .args .out)) (omega arith) ∙ sym (w .ensures)), sym (start-first (partsOf b) (sized-of b (s .pre .0))), omega arith, omega (arith, room s, w .kept), refl)
+    let e = head-of (partsOf b) (sized-of b (s .pre .0)) _ _ (w .before .before .numbers-of .ensures) (w .write-head .ensures) in
+    (sym (ap (over (formUpTo (partsOf b) 0)) e ∙ over-over _ _ (now (s .args .out)) (omega arith) ∙ sym e), sym (start-first (partsOf b) (sized-of b (s .pre .0))), omega arith, omega (arith, room s, w .write-head .kept), refl)
 
 copy-table-requires : tie.Need-copy-table-requires Inv-loop μ-loop
 copy-table-requires c κs =
-    let s = c .before .before .before .before .before .before .before .before .before in
+    let s = c .before .before .before .before .before .before .before .before .before .before in
     let b = now (s .args .bytes) in
     let k = c .before .before .loop .k in
     (s .pre .0, omega arith, omega (arith, start-next b (s .pre .0) k (omega arith), start-mono (partsOf b) (sized-of b (s .pre .0)) (k + 1) 9 (omega arith)))
@@ -53,7 +54,7 @@ copy-table-requires c κs =
 loop-again : tie.Need-loop-again Inv-loop μ-loop
 loop-again c =
     let at-loop = c .before .before .before .before .before in
-    let known = at-loop .before .before .before .before .before .before in
+    let known = at-loop .before .before .before .before .before .before .before in
     let s = known .before in
     let b = now (s .args .bytes) in
     let l = at-loop .loop in
@@ -72,14 +73,13 @@ same-length c = omega (arith, c .before .before .before .before .write-head .kep
 returns : tie.Need-returns Inv-loop μ-loop
 returns c =
     let at-write-head = c .before .before .before .before in
-    let s = at-write-head .before .before .before .before in
+    let s = at-write-head .before .before .before .before .before in
     let p = partsOf (now (s .args .bytes)) in
     let h = sized-of _ (s .pre .0) in
-    let w = at-write-head .write-head in
     let l = c .before .loop in
     let e : l .k ≡ 9 = omega arith in
-    l .inv .0 ∙ rw (e, up-all p h, w .ensures)
+    l .inv .0 ∙ rw (e, up-all p h, head-of p h _ _ (at-write-head .before .before .numbers-of .ensures) (at-write-head .write-head .ensures))
     (over-over (formUpTo p 0) (formOf p) (now (s .args .out)) (omega (arith, up-length p h 0, start-first p h, length-form p h)))
 
 pub write-form-spec : {M : Type 1} → statement M
-write-form-spec = tie.close (tie.spec Inv-loop μ-loop write-head-requires loop-holds copy-table-requires (search needs) (search needs) loop-again same-length returns)
+write-form-spec = tie.close (tie.spec Inv-loop μ-loop (λ c κs. search needs) write-head-requires loop-holds copy-table-requires (search needs) (search needs) loop-again same-length returns)

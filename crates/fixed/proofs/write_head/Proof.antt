@@ -10,7 +10,7 @@ use Rattle.fixed.proofs.write_head.Tie as tie
 copy-part-requires : tie.Need-copy-part-requires
 copy-part-requires c κs =
     let s = c .before .before .before in
-    ((λ n. omega (arith, header-met (now (s .args .bytes)) (s .pre .0) .long)), omega (arith, s .pre .1))
+    ((λ n. omega (arith, header-met (now (s .args .bytes)) (s .pre .0) .long)), omega (arith, s .pre .2))
 
 returns : tie.Need-returns
 returns c =
@@ -19,8 +19,8 @@ returns c =
     let part = fields .before .before .before .before in
     let known = part .before .before .before in
     let s = known .before in
-    head-written (now (s .args .bytes)) (s .pre .0) (record { byte = λ i. omega (arith, known .shared-slice-known .given i) }) _ (s .pre .1)
+    head-written (now (s .args .bytes)) (s .pre .0) (record { byte = λ i. omega (arith, known .shared-slice-known .given i) }) (s .args .n) _ (s .pre .2)
     (part .copy-part .ensures) (fields .put-fields .ensures) (more .put-more-fields .ensures)
 
 pub write-head-spec : {M : Type 1} → statement M
-write-head-spec = tie.close (tie.spec copy-part-requires (search needs) (search needs) (search needs) returns)
+write-head-spec = tie.close (tie.spec copy-part-requires (λ c κs. search needs) (λ c κs. search needs) (search needs) returns)

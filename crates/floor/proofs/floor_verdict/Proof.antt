@@ -1,52 +1,30 @@
--- The header, then the shape, then the tree and the borders. Assumes nothing.
+-- All that stands before half-edges, then rules 15 to 19. Assumes nothing.
 use borrow.Author.Needs.{needs}
-use mathlib.Core.Path.{refl}
-use denote.Ref.{now}
-use Rattle.tables.specs.Header.{RightHeader}
-use Rattle.tables.specs.Parts.{partsOf}
+use native.Mathlib.Omega.{arith}
+use mathlib.Core.Path.{_∙_}
 use Rattle.floor.specs.Groups.{rules1to19}
 use Rattle.floor.proofs.Order.{stops, goes-on, zero}
-use Rattle.floor.proofs.Meaning.{Shaped, shape-met}
+use Rattle.floor.proofs.Meaning.{early-met}
 use Rattle.floor.proofs.floor_verdict.Statement.{statement}
 use Rattle.floor.proofs.floor_verdict.Tie as tie
 
-right : (c : tie.Else1) → RightHeader (now (c .before .before .before .before .before .args .bytes))
-right c = zero _ _ (c .before .before .header-verdict .ensures) (c .if1 .left)
-
-shaped : (c : tie.Else2) → Shaped (partsOf (now (c .before .before .before .before .before .before .before .before .args .bytes)))
-shaped c = shape-met _ (right (c .before .before .before)) (zero _ _ (c .before .before .shape-verdict .ensures) (c .if2 .left))
-
 returns : tie.Need-returns
 unfolding rules1to19
-returns c = (stops _ _ _ (c .before .before .header-verdict .ensures) (c .if1 .taken), refl)
+returns c = let a = c .before .before .before .before .rules-1-to-14 in (stops _ _ _ (a .ensures .0) (c .if1 .taken), a .ensures .1)
 
-shape-verdict-requires : tie.Need-shape-verdict-requires
-shape-verdict-requires c κs = right c
+borders-verdict-requires : tie.Need-borders-verdict-requires
+borders-verdict-requires c κs =
+    let a = c .before .before .before .before .before in
+    let s = a .before .before .before .before in
+    (early-met _ (zero _ _ (a .rules-1-to-14 .ensures .0) (c .before .if1 .left)) .header, omega (arith, s .pre, a .rules-1-to-14 .kept .1 .0))
 
 returns-2 : tie.Need-returns-2
 unfolding rules1to19
 returns-2 c =
-    let e = c .before .before .before in
-    (goes-on _ _ _ _ (e .before .before .header-verdict .ensures) (e .if1 .left) (stops _ _ _ (c .before .before .shape-verdict .ensures) (c .if2 .taken)), refl)
-
-tree-and-borders-requires : tie.Need-tree-and-borders-requires
-tree-and-borders-requires c κs =
-    let there = c .before .before .before .before in
-    let s = there .before .before .before .before .before in
-    let h = right there in
-    let q = shaped (c .before) in
-    ((q .mesh .finite, q .mesh .cornered, q .closed), (h, s .pre))
-
-returns-3 : tie.Need-returns-3
-unfolding rules1to19
-returns-3 c =
-    let b = c .before .before .tree-and-borders in
-    let f = c .before .before .before .before in
-    let e = f .before .before .before in (
-      goes-on _ _ _ _ (e .before .before .header-verdict .ensures) (e .if1 .left)
-          (goes-on _ _ _ _ (f .before .before .shape-verdict .ensures) (f .if2 .left) (b .ensures .0)),
-      b .ensures .1,
-    )
+    let b = c .before .before .borders-verdict in
+    let e = c .before .before .before .before in
+    let a = e .before .before .before .before .rules-1-to-14 in
+    (goes-on _ _ _ _ (a .ensures .0) (e .if1 .left) (b .ensures .0), b .ensures .1 ∙ a .ensures .1)
 
 pub floor-verdict-spec : {M : Type 1} → statement M
-floor-verdict-spec = tie.close (tie.spec (search needs) returns shape-verdict-requires returns-2 tree-and-borders-requires (search needs) returns-3)
+floor-verdict-spec = tie.close (tie.spec (λ c κs. search needs) (search needs) returns borders-verdict-requires (search needs) returns-2)

@@ -10,17 +10,19 @@ use Rattle.verdict.specs.Lowest.{lowest}
 use Rattle.verdict.specs.Memory.{workSize, past, SamePast}
 use Rattle.verdict.proofs.Lowest.{lowest-none, lowest-more, lowest-hit, lowest-done}
 use Rattle.verdict.proofs.Memory.{drop-cleared}
+use Rattle.chains.specs.Chains.{Chained}
+use Rattle.chains.proofs.Chains.{chained-none}
 use Rattle.tables.specs.Parts.{partsOf}
 use Rattle.pairs.specs.Halves.{repeats}
-use Rattle.pairs.specs.Chains.{chains, Chained}
+use Rattle.pairs.specs.Chains.{chains, chainOf, chain}
 use Rattle.pairs.proofs.Halves.{few-walkable}
-use Rattle.pairs.proofs.Chains.{past-last, chained-none, chained-as}
+use Rattle.pairs.proofs.Chains.{past-last, half-chained}
 use Rattle.pairs.proofs.first_repeat.Statement.{statement}
 use Rattle.pairs.proofs.first_repeat.Tie as tie
 
 abbrev Inv-loop : tie.InvT-loop
 Inv-loop bytes work₀ n h₀ work h =
-    (h ≤ n) × (lowest h (repeats (partsOf bytes)) ≡ h) × (length work ≡ length work₀) × Chained (partsOf bytes) work h × SamePast work work₀
+    (h ≤ n) × (lowest h (repeats (partsOf bytes)) ≡ h) × (length work ≡ length work₀) × Chained chains (chain (partsOf bytes)) work h × SamePast work work₀
 
 abbrev μ-loop : tie.MeasureT-loop
 μ-loop bytes work₀ n h₀ work h = n - h
@@ -44,7 +46,7 @@ loop-holds c =
     let clear = c .before .before in
     let s = clear .before .before .before .before .before in
     let p = partsOf (now (s .args .bytes)) in
-    (omega arith, lowest-none _, refl, subst (λ (w : List ℕ). Chained p w 0) (sym (clear .clear-to .ensures)) (chained-none p (now (s .args .work))), refl)
+    (omega arith, lowest-none _, refl, subst (λ (w : List ℕ). Chained chains (chain p) w 0) (sym (clear .clear-to .ensures)) (chained-none (chain p) chains (now (s .args .work))), refl)
 
 is-run-requires : tie.Need-is-run-requires Inv-loop μ-loop
 is-run-requires c κs =
@@ -81,8 +83,8 @@ loop-again c =
       omega arith,
       lowest-more _ _ (l .loop .inv .1) (sym (told run) ∙ put .before .before .before .if1 .left),
       put .put-last .kept .0 ∙ l .loop .inv .2,
-      chained-as _ _ _ _ _ _ _ small (long l) (l .loop .inv .3) (run .before .before .before .from-of .ensures .0) (run .before .before .to-of .ensures .0) (v .0) (put .put-last .ensures),
-      ap past (put .put-last .ensures) ∙ past-last _ _ _ (v .1) small ∙ l .loop .inv .4,
+      half-chained chains chainOf _ _ _ _ _ _ _ small (omega (arith, small, long l)) (l .loop .inv .3) (run .before .before .before .from-of .ensures .0) (run .before .before .to-of .ensures .0) v (put .put-last .ensures),
+      past-last _ _ _ _ (v .1) small (put .put-last .ensures) ∙ l .loop .inv .4,
     )
 
 returns-2 : tie.Need-returns-2 Inv-loop μ-loop
@@ -91,13 +93,13 @@ returns-2 c =
     let p = partsOf (now (start l .args .bytes)) in
     let count = at-clear l .before .before .halves-of in
     let e : l .loop .h ≡ count .result = omega arith in
-    (count .ensures .0 ∙ lowest-done _ _ _ (l .loop .inv .1) (search needs), (subst (λ (k : ℕ). Chained p (l .loop .work) k) e (l .loop .inv .3), kept l))
+    (count .ensures .0 ∙ lowest-done _ _ _ (l .loop .inv .1) (search needs), (subst (λ (k : ℕ). Chained chains (chain p) (l .loop .work) k) e (l .loop .inv .3), kept l))
 
 put-last-requires : tie.Need-put-last-requires Inv-loop μ-loop
 put-last-requires c κs =
     let run = c .before .before .before in
     let i = run .before .before .before .before in
-    (c .chain-of .ensures .1, few i, long (i .before))
+    (c .chain-of .ensures .1, omega (arith, few i, long (i .before)))
 
 pub first-repeat-spec : {M : Type 1} → statement M
 first-repeat-spec = tie.close (tie.spec Inv-loop μ-loop (search needs) (search needs) (λ c κs. search needs) loop-holds (λ c κs. search needs) (λ c κs. search needs) is-run-requires (search needs) returns (λ c κs. search needs) put-last-requires (search needs) (search needs) loop-again (search needs) returns-2)

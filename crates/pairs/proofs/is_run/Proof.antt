@@ -4,14 +4,16 @@ use native.Mathlib.Omega.{arith}
 use mathlib.Core.Path.{sym, _∙_}
 use Prim.Native.Nat.{_<_, _≤_}
 use denote.Ref.{now}
+use Rattle.chains.proofs.Walk.{walk-hit, walk-done}
 use Rattle.tables.specs.Parts.{partsOf}
+use Rattle.pairs.specs.Chains.{chains, chainOf}
 use Rattle.pairs.proofs.Halves.{few-walkable}
-use Rattle.pairs.proofs.Chains.{Walk, walk-start, walk-step, walk-hit, walk-done}
+use Rattle.pairs.proofs.Chains.{Run, run-start, run-step}
 use Rattle.pairs.proofs.is_run.Statement.{statement}
 use Rattle.pairs.proofs.is_run.Tie as tie
 
 abbrev Inv-loop : tie.InvT-loop
-Inv-loop bytes work s a b g₀ g = Walk (partsOf bytes) a b s g
+Inv-loop bytes work s a b g₀ g = Run chainOf (partsOf bytes) a b s g
 
 abbrev μ-loop : tie.MeasureT-loop
 μ-loop bytes work s a b g₀ g = g
@@ -20,12 +22,15 @@ loop-holds : tie.Need-loop-holds Inv-loop μ-loop
 loop-holds c =
     let s = c .before .before .before .before in
     let v = c .before .chain-of .ensures in
-    walk-start _ _ _ _ _ (s .pre .1 .1) _ _ (v .0) (v .1) (c .u16-at .ensures .0)
+    run-start chains chainOf _ _ _ _ _ (s .pre .1 .1) _ _ v (c .last-of .ensures .0)
+
+last-of-requires : tie.Need-last-of-requires Inv-loop μ-loop
+last-of-requires c κs = omega (arith, c .chain-of .ensures .1, c .before .before .before .pre .1 .0)
 
 returns : tie.Need-returns Inv-loop μ-loop
 returns c =
     let l = c .before .before .before in
-    walk-hit _ _ _ _ (l .loop .g) (search needs) (l .loop .inv) (sym (c .before .runs-so .ensures) ∙ c .if1 .taken)
+    walk-hit (l .loop .inv) (search needs) (sym (c .before .runs-so .ensures) ∙ c .if1 .taken)
 
 -- half-edge g - 1 is one of a walkable face
 runs-so-requires : tie.Need-runs-so-requires Inv-loop μ-loop
@@ -35,14 +40,14 @@ runs-so-requires c κs =
     (s .0, omega (arith, s .1, l .loop .inv .within))
 
 -- one step along the chain
-stepped : (c : tie.After-u16-at2 Inv-loop μ-loop)
+stepped : (c : tie.After-before-of Inv-loop μ-loop)
     → let l = c .before .before .before .before in
     let a = l .before .before .before .before .before .args in
-    Walk (partsOf (now (a .bytes))) (a .a) (a .b) (a .s) (c .u16-at2 .result) × (c .u16-at2 .result < l .loop .g)
+    Run chainOf (partsOf (now (a .bytes))) (a .a) (a .b) (a .s) (c .before-of .result) × (c .before-of .result < l .loop .g)
 stepped c =
     let l = c .before .before .before .before in
     let s = l .before .before .before .before .before in
-    walk-step _ _ _ _ _ (s .pre .1 .1) _ _ (search needs) (l .loop .inv) (c .u16-at2 .ensures .0) (sym (c .before .before .runs-so .ensures) ∙ c .before .if1 .left)
+    run-step chains chainOf _ _ _ _ _ (s .pre .1 .1) _ _ (search needs) (l .loop .inv) (c .before-of .ensures .0) (sym (c .before .before .runs-so .ensures) ∙ c .before .if1 .left)
 
 loop-again : tie.Need-loop-again Inv-loop μ-loop
 loop-again c = stepped c .0
@@ -53,11 +58,11 @@ few c =
     let s = l .before .before .before .before .before in
     omega (arith, s .pre .0 .1, l .loop .inv .within, few-walkable (now (s .args .bytes)) (s .pre .0 .0))
 
-u16-at-requires-2 : tie.Need-u16-at-requires-2 Inv-loop μ-loop
-u16-at-requires-2 c κs = omega (arith, few c, c .before .before .before .before .before .before .before .before .pre .1 .0)
+before-of-requires : tie.Need-before-of-requires Inv-loop μ-loop
+before-of-requires c κs = omega (arith, few c, c .before .before .before .before .before .before .before .before .pre .1 .0)
 
 returns-2 : tie.Need-returns-2 Inv-loop μ-loop
-returns-2 c = walk-done _ _ _ _ _ (search needs) (c .before .loop .inv)
+returns-2 c = walk-done (c .before .loop .inv) (search needs)
 
 pub is-run-spec : {M : Type 1} → statement M
-is-run-spec = tie.close (tie.spec Inv-loop μ-loop (search needs) (search needs) (λ c κs. search needs) loop-holds (search needs) runs-so-requires returns (search needs) (λ c. omega (arith, few c)) (λ c. omega (arith, few c)) u16-at-requires-2 (λ c. stepped c .1) loop-again returns-2)
+is-run-spec = tie.close (tie.spec Inv-loop μ-loop (search needs) last-of-requires loop-holds (search needs) runs-so-requires returns (search needs) before-of-requires (λ c. stepped c .1) loop-again returns-2)

@@ -5,10 +5,11 @@ use mathlib.Core.Path.{_≡_, subst}
 use Prim.Native.Nat.{ℕ}
 use denote.Ref.{now}
 use Rattle.verdict.proofs.Lowest.{lowest-within}
+use Rattle.chains.specs.Chains.{Chained}
 use Rattle.tables.specs.Parts.{partsOf}
 use Rattle.pairs.specs.Halves.{halves}
 use Rattle.pairs.specs.Plain.{Apart}
-use Rattle.pairs.specs.Chains.{Chained}
+use Rattle.pairs.specs.Chains.{chains, chain}
 use Rattle.pairs.proofs.Group.{repeat-stops, repeat-none, wrong-answers}
 use Rattle.pairs.proofs.pairs_verdict.Statement.{statement}
 use Rattle.pairs.proofs.pairs_verdict.Tie as tie
@@ -33,7 +34,7 @@ first-wrong-adjacent-requires c κs =
     let p = partsOf (now (s .args .bytes)) in
     let all : found .first-repeat .result ≡ halves p =
     omega (arith, lowest-within _ _ _ (found .first-repeat .ensures .0), found .before .before .halves-of .ensures) in
-    ((s .pre .0, apart past), (search needs, subst (λ (k : ℕ). Chained p (found .first-repeat .last .1 .0) k) all (found .first-repeat .ensures .1 .0)))
+    ((s .pre .0, apart past), (search needs, subst (λ (k : ℕ). Chained chains (chain p) (found .first-repeat .last .1 .0) k) all (found .first-repeat .ensures .1 .0)))
 
 returns-2 : tie.Need-returns-2
 returns-2 c =

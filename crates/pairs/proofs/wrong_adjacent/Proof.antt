@@ -4,9 +4,10 @@ use native.Mathlib.Omega.{arith}
 use mathlib.Core.Path.{sym, subst, _∙_}
 use Prim.Native.Nat.{ℕ, _≤_}
 use denote.Ref.{now}
+use Rattle.chains.specs.Chains.{Chained}
 use Rattle.tables.specs.Parts.{Parts, partsOf}
 use Rattle.pairs.specs.Halves.{halves}
-use Rattle.pairs.specs.Chains.{Chained}
+use Rattle.pairs.specs.Chains.{chains, chain}
 use Rattle.pairs.proofs.Halves.{few-walkable}
 use Rattle.pairs.proofs.Claims.{claims-none, claims-half, claims-more}
 use Rattle.pairs.proofs.wrong_adjacent.Statement.{statement}
@@ -49,7 +50,7 @@ is-run-requires c κs =
     let count = ends .before .before .before .halves-of .ensures .0 in
     let s = start ends in (
       (s .pre .0 .0, omega (arith, count), ends .to-of .ensures .1, ends .before .from-of .ensures .1),
-      (s .pre .1 .0, subst (λ (k : ℕ). Chained (parts ends) (now (s .args .work)) k) (sym count) (s .pre .1 .1)),
+      (s .pre .1 .0, subst (λ (k : ℕ). Chained chains (chain (parts ends)) (now (s .args .work)) k) (sym count) (s .pre .1 .1)),
     )
 
 runs-so-requires : tie.Need-runs-so-requires
