@@ -12,6 +12,7 @@
    What is lent comes back like this:
      work     the first WP_WORK bytes are zero, the rest is untouched; with refusal 20 all of it is untouched
      out      the form, then the old rest; untouched on refusal
+     list     what mending tells, then the old rest; untouched on refusal
      floor    an edit or undo writes four bytes, a put-back four for each record it takes out; untouched on refusal
      journal  an edit writes one record; an undo or put-back moves records down into the room of those it takes out,
               and the bytes past the last one stay; untouched on refusal
@@ -32,9 +33,13 @@
 #include <stddef.h>
 #include <stdint.h>
 
-/* Work memory that the calls over a floor ask for; bytes of a journal's record, the most records kept, and how many
-   benches share them; the longest text; how many rooms a layout has at most. */
+/* Work memory that the calls over a floor ask for; what is always enough for a mended floor and for its list, whatever
+   the floor (the largest tables that are accepted; every corner changed and every link lost); bytes of a journal's
+   record, the most records kept, and how many benches share them; the longest text; how many rooms a layout has at
+   most. */
 #define WP_WORK 65536u
+#define WP_MENDED 737372u
+#define WP_LIST 270336u
 #define WP_RECORD 16u
 #define WP_RECORDS 4096u
 #define WP_BENCHES 2u
@@ -67,6 +72,15 @@ typedef struct wp_form {
     uint32_t place;
     uint32_t length;
 } wp_form;
+
+/* The answer of mending: how many bytes of the output are the mended floor, and how many of the list tell what came of
+   it. Both are 0 on refusal. */
+typedef struct wp_mended {
+    uint32_t number;
+    uint32_t place;
+    uint32_t length;
+    uint32_t listed;
+} wp_mended;
 
 /* The query's answer: found is 1 if a face holds the point, and face is the lowest such face; else both are 0.
    visited is how many nodes of the tree were visited. */
@@ -107,6 +121,18 @@ wp_form wp_rewrite(const uint8_t *bytes, size_t bytes_length, uint8_t *work, siz
                    uint8_t *out, size_t out_length);
 wp_point wp_query(const uint8_t *bytes, size_t bytes_length, uint8_t *work, size_t work_length,
                   int32_t x, int32_t y);
+
+/* A floor with split seams mended. Every corner becomes the lowest vertex with equal coordinates (-0 is 0), and adjacency,
+   edges and perimeters are worked out afresh: those of the floor handed in may be wrong, 16 to 19 are not asked. An edge
+   keeps its transition if its half-edge had just one entry with a transition from -1 to 63; else it leads nowhere.
+   All else stays. The mended floor is written to out, in the fixed form; it is accepted, and mending it again writes the
+   same bytes and an empty list. The list has records like a journal's, but of no bench: a tag, a length in two bytes, and
+   numbers of four bytes, the lowest byte first. First, by place, 15 bytes for each corner changed: 1, 12, then
+   3 * face + corner, old vertex, new vertex. Then, in order, 7 bytes for each half-edge that led to a room and no longer
+   does: 2, 4, half-edge. A floor that the changed corners would make wrong is refused with 8 or 15; 40 means that out or
+   list is too short. */
+wp_mended wp_mend(const uint8_t *bytes, size_t bytes_length, uint8_t *work, size_t work_length,
+                  uint8_t *out, size_t out_length, uint8_t *list, size_t list_length);
 
 /* Edits by bench 0 or 1, each of which may hold half of the records that fit into the journal. A nudge's place is 0 to
    11, one of the floats of the use positions; its step is in sixty-fourths. Two edits, of one bench or of both, that

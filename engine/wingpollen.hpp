@@ -1,5 +1,6 @@
-// wingpollen.hpp: the library for C++17 programs: the refusals with words for volunteers, texts and floors as values,
-// SharedFloor, one floor and one journal for two benches, and Visit, one visitor at one of them; both put back at last.
+// wingpollen.hpp: the library for C++17 programs: the refusals with words for volunteers, texts, floors and mended
+// floors as values, SharedFloor, one floor and one journal for two benches, and Visit, one visitor at one of them; both
+// put back at last.
 //
 // The engine's one duty (wingpollen.h) is kept here by ownership: whatever a call may write is memory that belongs to
 // the SharedFloor, or is made for that one call, and none of it can be reached from outside except to be read between
@@ -43,6 +44,11 @@ WINGPOLLEN_LAYOUT(wp_form, 12, 4);
 WINGPOLLEN_FIELD(wp_form, number, 0, std::uint32_t);
 WINGPOLLEN_FIELD(wp_form, place, 4, std::uint32_t);
 WINGPOLLEN_FIELD(wp_form, length, 8, std::uint32_t);
+WINGPOLLEN_LAYOUT(wp_mended, 16, 4);
+WINGPOLLEN_FIELD(wp_mended, number, 0, std::uint32_t);
+WINGPOLLEN_FIELD(wp_mended, place, 4, std::uint32_t);
+WINGPOLLEN_FIELD(wp_mended, length, 8, std::uint32_t);
+WINGPOLLEN_FIELD(wp_mended, listed, 12, std::uint32_t);
 WINGPOLLEN_LAYOUT(wp_point, 20, 4);
 WINGPOLLEN_FIELD(wp_point, number, 0, std::uint32_t);
 WINGPOLLEN_FIELD(wp_point, place, 4, std::uint32_t);
@@ -251,6 +257,24 @@ struct FloorForm {
     std::vector<std::uint8_t> bytes;
 };
 
+// A corner that mending has changed: that of this number of this face, and the vertices that it was and is now.
+struct ChangedCorner {
+    std::uint32_t face, corner, old_vertex, new_vertex;
+};
+
+// A side of a face that led to a room and no longer does: it is no border now, or had more than one entry.
+struct LostLink {
+    std::uint32_t face, side;
+};
+
+// A mended floor in its fixed form, and what its list tells; all empty on refusal.
+struct MendedFloor {
+    wp_mended answer;
+    std::vector<std::uint8_t> bytes;
+    std::vector<ChangedCorner> corners;
+    std::vector<LostLink> lost;
+};
+
 // A text in its fixed form, empty on refusal.
 struct TextForm {
     wp_form answer;
@@ -275,6 +299,36 @@ TextForm text_form(Call call) {
 }
 
 }  // namespace inside
+
+namespace inside {
+
+// Number i of a record of the list, behind its tag and length.
+inline std::uint32_t listed_number(const std::uint8_t* record, std::size_t i) noexcept {
+    const std::uint8_t* at = record + 3 + 4 * i;
+    return at[0] | std::uint32_t{at[1]} << 8 | std::uint32_t{at[2]} << 16 | std::uint32_t{at[3]} << 24;
+}
+
+}  // namespace inside
+
+// Mends the split seams of a floor, before anyone sits down at it. The floor's bytes stay what they are.
+inline MendedFloor mend(Bytes floor) {
+    MendedFloor mended{{}, std::vector<std::uint8_t>(WP_MENDED), {}, {}};
+    std::vector<std::uint8_t> work(WP_WORK), list(WP_LIST);
+    mended.answer = wp_mend(inside::to_read(floor), floor.length, work.data(), work.size(), mended.bytes.data(),
+                            mended.bytes.size(), list.data(), list.size());
+    mended.bytes.resize(mended.answer.length);
+    const std::uint8_t *at = list.data(), *end = at + mended.answer.listed;
+    for (; at != end; at += 3 + at[1]) {
+        const std::uint32_t place = inside::listed_number(at, 0);
+        if (at[0] == 1) {
+            mended.corners.push_back(
+                {place / 3, place % 3, inside::listed_number(at, 1), inside::listed_number(at, 2)});
+        } else {
+            mended.lost.push_back({place / 3, place % 3});
+        }
+    }
+    return mended;
+}
 
 inline TextForm layout_rewrite(std::string_view layout) {
     return inside::text_form([&](std::uint8_t* out, std::size_t length) {

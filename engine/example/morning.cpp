@@ -13,6 +13,9 @@
 //     close                 all have left, and the floor is closed: what is still to be put back is put back
 //     query X Y             which face holds the point, in sixty-fourths
 //     rewrite               the floor in fixed form, whether that has the same counts and is its own fixed form
+//     school FLOOR NAME     a floor as a school sends it, named NAME: every face of FLOOR has corners of its own and no
+//                           neighbour, and its sides lead to the room of its number
+//     mend FLOOR NAME       a floor's split seams are mended; what comes of it is named NAME, and its list is read out
 //     house FILE            the house's layout, for captions and the link check
 //     plan FILE             the visitor's layout        sight FILE   what its rooms see
 //     show                  both of them in fixed form
@@ -58,6 +61,59 @@ std::string contents(const std::string& path) {
 
 using Owned = std::vector<std::uint8_t>;
 Owned owned(Bytes bytes) { return {bytes.data, bytes.data + bytes.length}; }
+
+// A floor's numbers, of four bytes each.
+std::uint32_t word_at(const Owned& bytes, std::size_t at) {
+    if (at + 4 > bytes.size()) give_up("no floor to make another of");
+    std::uint32_t word = 0;
+    for (std::size_t i = 0; i < 4; ++i) word |= static_cast<std::uint32_t>(bytes[at + i]) << 8 * i;
+    return word;
+}
+void put_word(Owned& bytes, std::size_t at, std::uint32_t word) {
+    for (std::size_t i = 0; i < 4; ++i) bytes[at + i] = static_cast<std::uint8_t>(word >> 8 * i);
+}
+
+// A floor that is put together from another one, table after table behind the header.
+struct Made {
+    const Owned& old;
+    Owned bytes{old.begin(), old.begin() + 136};
+
+    // The table of this offset field begins here.
+    void begin(std::size_t field) { put_word(bytes, field, static_cast<std::uint32_t>(bytes.size())); }
+    void add(std::uint32_t word) {
+        bytes.resize(bytes.size() + 4);
+        put_word(bytes, bytes.size() - 4, word);
+    }
+    // Word i of the old table of this offset field, and the whole table, of so many words.
+    std::uint32_t word(std::size_t field, std::uint32_t i) const { return word_at(old, word_at(old, field) + 4 * i); }
+    void copy(std::size_t field, std::uint32_t words) {
+        begin(field);
+        for (std::uint32_t i = 0; i < words; ++i) add(word(field, i));
+    }
+};
+
+// A floor as a school sends it: the same faces at the same places under the same tree, but each with corners of its
+// own. Its lists are right as it stands: every walkable face is a loop by itself.
+Owned school_floor(const Owned& old) {
+    if (old.size() < 136) give_up("no floor to make another of");
+    const std::uint32_t faces = word_at(old, 80), nodes = word_at(old, 100), walkable = word_at(old, 112);
+    Made made{old};
+    made.begin(76);
+    for (std::uint32_t corner = 0; corner < 3 * faces; ++corner) {
+        for (std::uint32_t i = 0; i < 3; ++i) made.add(made.word(76, 3 * made.word(84, corner) + i));
+    }
+    made.begin(84);
+    for (std::uint32_t corner = 0; corner < 3 * faces; ++corner) made.add(corner);
+    made.copy(88, faces), made.copy(92, 3 * faces), made.copy(96, faces), made.copy(104, 11 * nodes);
+    made.begin(116);
+    for (std::uint32_t side = 0; side < 3 * walkable; ++side) made.add(UINT32_MAX);
+    made.begin(124);
+    for (std::uint32_t side = 0; side < 3 * walkable; ++side) made.add(side), made.add(side / 3);
+    made.begin(132);
+    for (std::uint32_t face = 0; face < walkable; ++face) made.add(3 * face + 3);
+    put_word(made.bytes, 72, 3 * faces), put_word(made.bytes, 120, 3 * walkable), put_word(made.bytes, 128, walkable);
+    return std::move(made.bytes);
+}
 
 // A number of the script. The calls take 32 bits, of either sign, and check the rest themselves.
 std::int64_t number(const std::string& word) {
@@ -115,7 +171,7 @@ public:
     bool good_end() {
         if (floor_) give_up("a floor is still open: " + at_);
         std::uint64_t same = 0;
-        for (const auto& [name, now] : gallery_) same += now == from_file(name);
+        for (const auto& [name, now] : gallery_) same += now == first(name);
         std::cout << "\nThe morning is over: " << counted(gallery_.size(), "floor") << " opened, " << same
                   << " as at the start, byte for byte.\n";
         return same == gallery_.size();
@@ -161,6 +217,8 @@ private:
             {"close", {0, 0, N::floor, [](M& m, const W&) { m.close(); }}},
             {"query", {2, 2, N::floor, [](M& m, const W& w) { m.query(whole(w[1]), whole(w[2])); }}},
             {"rewrite", {0, 0, N::floor, [](M& m, const W&) { m.rewrite(); }}},
+            {"school", {2, 2, N::nothing, [](M& m, const W& w) { m.school(w[1], w[2]); }}},
+            {"mend", {2, 2, N::nothing, [](M& m, const W& w) { m.mended(w[1], w[2]); }}},
             {"house", {1, 1, N::nothing, [](M& m, const W& w) { m.take(m.house_, w[1]); }}},
             {"plan", {1, 1, N::nothing, [](M& m, const W& w) { m.take(m.plan_, w[1]); }}},
             {"sight", {1, 1, N::nothing, [](M& m, const W& w) { m.take(m.sight_, w[1]); }}},
@@ -184,7 +242,7 @@ private:
     void open(const std::string& name, std::uint32_t records) {
         if (floor_ || stopped_) give_up("the last floor is not put back yet: " + at_);
         at_ = name;
-        if (gallery_.count(name) == 0) gallery_[name] = from_file(name);
+        if (gallery_.count(name) == 0) gallery_[name] = first(name);
         opening_ = gallery_[name];
         floor_ = std::make_unique<SharedFloor>(opening_, *this, records);
         say_opened();
@@ -205,7 +263,37 @@ private:
         floor_.reset();
     }
 
-    Owned from_file(const std::string& name) const { return owned(std::string_view(contents(floors_ + '/' + name))); }
+    // A floor as the morning began with it, or as it was made.
+    Owned first(const std::string& name) const {
+        const auto made = made_.find(name);
+        return made != made_.end() ? made->second : owned(std::string_view(contents(floors_ + '/' + name)));
+    }
+
+    void school(const std::string& from, const std::string& name) {
+        made_[name] = school_floor(first(from));
+        std::cout << counted(made_[name].size(), "byte");
+    }
+
+    // At the desk, before the floor is opened for anyone.
+    void mended(const std::string& from, const std::string& name) {
+        const Owned old = first(from);
+        const MendedFloor floor = mend(old);
+        if (floor.answer.number != 0) {
+            std::cout << refused(floor.answer);
+            return;
+        }
+        std::cout << counted(floor.bytes.size(), "byte") << ", " << counted(floor.corners.size(), "corner")
+                  << " changed, " << counted(floor.lost.size(), "link") << " lost";
+        if (floor.bytes == old) std::cout << ", the same floor byte for byte";
+        for (const ChangedCorner& corner : floor.corners) {
+            std::cout << "\n    face " << corner.face << ", corner " << corner.corner << ": vertex "
+                      << corner.old_vertex << " is now " << corner.new_vertex;
+        }
+        for (const LostLink& link : floor.lost) {
+            std::cout << "\n    face " << link.face << ", side " << link.side << ": leads to no room now";
+        }
+        made_[name] = floor.bytes;
+    }
 
     void say_opened() const {
         const wp_floor& floor = floor_->opened();
@@ -335,7 +423,9 @@ private:
 
     std::string texts_, floors_;
     std::string house_, plan_, sight_;
-    // The floors as they are now; the one that is open, and what it was when it was opened.
+    // Floors that no file has, as they were made. The floors as they are now; the one that is open, and what it was
+    // when it was opened.
+    std::map<std::string, Owned> made_;
     std::map<std::string, Owned> gallery_;
     std::string at_;
     Owned opening_;

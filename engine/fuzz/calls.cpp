@@ -1,8 +1,10 @@
 // calls.cpp: the fuzz target over the exported calls. An input is a head of 28 bytes that chooses the call, how its
 // slices lie and what its numbers are, and then the slices' bytes (seeds.py writes such inputs). After each call the
 // answer and all lent memory are held to what documents 01 and 02 say without a second implementation at hand: refusals
-// change nothing, work memory comes back cleared, forms read back, edits are undone to the byte, an undo closes up the
-// journal and a put-back is undo after undo, and the order of two edits counts no more than M-107 lets it.
+// change nothing, work memory comes back cleared, forms read back, a mended floor is accepted and stays as it is, edits
+// are undone to the byte, an undo closes up the journal and a put-back is undo after undo, and the order of two edits
+// counts no more than M-107 lets it.
+#include "mending.hpp"
 #include "sessions.hpp"
 
 using namespace fuzz;
@@ -53,7 +55,8 @@ struct Game : Sessions {
             case 11: return sight_renamed();
             case 12: return sight_row();
             case 13: return link_check();
-            default: return caption_of();
+            case 14: return caption_of();
+            default: return mend_seams();
         }
     }
 
@@ -94,14 +97,43 @@ struct Game : Sessions {
     }
 
     // A form, then the old rest; nothing at all on refusal.
-    void written(const wp_form& answer) const {
-        if (answer.number != 0) {
-            require(answer.length == 0, "a length on refusal");
-            return out.kept();
+    template <class Answered>
+    void written(const Answered& answer) const {
+        begun(out, answer.length, answer.number);
+    }
+    static void begun(const Slot& lent, std::uint32_t length, std::uint32_t number) {
+        if (number != 0) {
+            require(length == 0, "a length on refusal");
+            return lent.kept();
         }
-        require(answer.length <= out.length, "a form longer than the output");
-        require(std::equal(out.data + answer.length, out.data + out.length, out.before.begin() + answer.length),
-                "bytes past the form were written");
+        require(length <= lent.length, "more is said to be written than was lent");
+        require(std::equal(lent.data + length, lent.data + lent.length, lent.before.begin() + length),
+                "bytes past what was to be written were written");
+    }
+
+    // The second slice is the list. What is asked of a mended floor needs no other call's answer but the reader's.
+    void mend_seams() {
+        const wp_mended answer =
+            wp_mend(first.data, first.length, work.data, work.length, out.data, out.length, second.data, second.length);
+        judge(answer, answer.place, 40, 40);
+        require(answer.number < 16 || answer.number > 19, "a list's refusal of a floor that is to be mended");
+        cleared(answer.number);
+        end({&first, &third});
+        const wp_floor before = accepts(first.before);
+        const bool of_reader = before.number >= 1 && before.number <= 15 && answer.number != 20;
+        require(!of_reader || (answer.number == before.number && answer.place == before.place),
+                "the reader's refusal is another");
+        const bool own = answer.number == 0 || answer.number == 8 || answer.number == 15 || answer.number >= 20;
+        require(of_reader || own, "a refusal that the reader does not give");
+        written(answer);
+        begun(second, answer.listed, answer.number);
+        if (answer.number != 0) return;
+        Owned form = out.after(), list = second.after();
+        form.resize(answer.length);
+        list.resize(answer.listed);
+        const Mending mending{first.before, form, list};
+        mending.judged();
+        grade(0, mending.corners()), grade(1, mending.losses()), grade(2, accepts(form).perimeters);
     }
 
     void query() {

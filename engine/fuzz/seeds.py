@@ -1,9 +1,9 @@
 #!/usr/bin/env python3
 """Writes the fuzz target's first inputs: seeds.py FOLDER. Each is a head of 28 bytes and then the slices, as calls.cpp reads
-them: the sample floors under every call over a floor, small journals of two benches, pairs of edits, and texts that read and texts that do not."""
+them: the sample floors under every call over a floor, floors with split seams, small journals of two benches, pairs of edits, and texts that read and texts that do not."""
 import importlib.util, pathlib, struct, sys
 
-READ, REWRITE, QUERY, PAINT, LINK, NUDGE, UNDO, PUT_BACK, LAYOUT, LAYOUT_NAME, SIGHT, SIGHT_NAME, ROW, CHECK, CAPTION = range(15)
+READ, REWRITE, QUERY, PAINT, LINK, NUDGE, UNDO, PUT_BACK, LAYOUT, LAYOUT_NAME, SIGHT, SIGHT_NAME, ROW, CHECK, CAPTION, MEND = range(16)
 
 here = pathlib.Path(__file__).resolve().parent
 spec = importlib.util.spec_from_file_location("make", here.parent.parent / "samples" / "make.py")
@@ -59,6 +59,38 @@ VISITS = [
 ]
 
 
+def parted(parts, apart):
+    """The floor with corners of their own for these faces, its lists left as they are."""
+    vertices, faces = list(parts["vertices"]), [list(f) for f in parts["faces"]]
+    for f in apart:
+        for e in range(3):
+            vertices.append(vertices[faces[f][e]])
+            faces[f][e] = len(vertices) - 1
+    return dict(parts, vertices=vertices, faces=faces)
+
+
+def seams():
+    """Floors with split seams: lists of all kinds, zeros of either sign, a fan, two loops at one vertex, and corners that meet where none may."""
+    square = [(0.0, 0.0, 0.0), (1.0, 0.0, 0.0), (0.0, 1.0, 0.0), (1.0, 1.0, 0.0)]
+    two = make.floor(square, [(0, 1, 2), (2, 1, 3)], [4, 4])
+    fan = make.floor([(0.0, 0.0, 0.0), (1.0, 0.0, 0.0), (0.0, 1.0, 0.0), (-1.0, 0.0, 0.0), (0.0, -1.0, 0.0)],
+                     [(0, 1, 2), (0, 2, 3), (0, 3, 4), (0, 4, 1)], [4, 4, 4, 4])
+    bow = make.floor(fan["vertices"], [(0, 1, 2), (0, 3, 4)], [4, 4])
+    touching = make.floor(square + [(2.0, 1.0, 0.0), (1.0, 2.0, 0.0)], [(0, 1, 2), (3, 4, 5), (2, 1, 3)], [4, 4, 4])
+    over = make.floor(square, [(0, 1, 2), (1, 0, 3)], [4, 4])
+    for parts, apart in ((two, [1]), (two, [0, 1]), (fan, [1, 3]), (fan, [0, 1, 2, 3]), (bow, [1]), (touching, [1]), (touching, [0, 1, 2])):
+        whole = parted(parts, apart)
+        yield whole
+        yield dict(whole, edges=[[h, h % 64] for h in range(3 * len(parts["faces"]))], perimeters=[])
+        yield dict(whole, edges=[[1, 5], [1, 5], [0, 64], [0, 3], [99, 1], [3, make.NONE - 1], [2, 63]], perimeters=[[7], [0]])
+    alone = parted(two, [1])
+    yield dict(alone, vertices=[[-0.0 if x == 0.0 else x for x in v] for v in alone["vertices"][:4]] + alone["vertices"][4:])
+    yield dict(alone, materials=[[4], [7]], adjacency=alone["adjacency"][:1])
+    same_way = parted(over, [1])
+    yield dict(same_way, faces=[same_way["faces"][0], same_way["faces"][1][::-1]])
+    yield dict(alone, vertices=alone["vertices"][:5] + [alone["vertices"][4]] + alone["vertices"][6:])
+
+
 def halves(floor):
     """Edits where a bench has its half, one less or more than it, where nobody's record is among them, and with f up to and past what fits."""
     for own, other, nobody, fit in ((1, 0, 0, 2), (0, 1, 0, 2), (1, 0, 0, 3), (0, 1, 1, 2), (1, 1, 0, 4), (2, 1, 0, 4), (0, 3, 0, 4), (0, 4, 0, 4), (1, 1, 1, 5), (3, 0, 0, 4)):
@@ -102,6 +134,8 @@ def cases():
         yield case(REWRITE, data)
         yield case(QUERY, data, a=32, b=32)
         yield case(CHECK, data, LAYOUTS[0])
+        yield case(MEND, data)
+        yield case(MEND, data, bytes(64))
         yield case(PAINT, data, bytes(2 * RECORD), a=0, b=5)
         for moves in VISITS:
             yield case(PUT_BACK, data, bytes(8 * RECORD), bytes(x for move in moves for x in move))
@@ -133,6 +167,12 @@ def cases():
         yield case(READ, data, work=70000, lie=9)
         yield case(REWRITE, data, out=len(data) - 1)
         yield from taken_out(data)
+    for data in map(make.spelled, seams()):
+        for room in (0, 14, 15, 30, 90, 400):
+            yield case(MEND, data, bytes(room))
+        yield case(MEND, data, bytes(400), out=440)
+        yield case(MEND, data, bytes(400), out=464, work=65535)
+        yield case(READ, data)
     for text in LAYOUTS:
         yield case(LAYOUT, text)
         yield case(LAYOUT, text, lie=0b0110110)

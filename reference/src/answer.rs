@@ -64,6 +64,16 @@ pub struct Form {
     pub length: u32,
 }
 
+/// The answer of mending: the bytes written to the output and to the list.
+#[repr(C)]
+#[derive(Clone, Copy, Debug, Default, PartialEq, Eq)]
+pub struct Mended {
+    pub number: u32,
+    pub place: u32,
+    pub length: u32,
+    pub listed: u32,
+}
+
 /// The answer of the point query: found is 0 or 1, face is 0 where none is found.
 #[repr(C)]
 #[derive(Clone, Copy, Debug, Default, PartialEq, Eq)]
@@ -121,6 +131,7 @@ fields! {
     Answer: number place;
     Floor: number place faces walkable edges perimeters;
     Form: number place length;
+    Mended: number place length listed;
     Point: number place found face visited;
     Session: number place f;
     Row: number place row seen;

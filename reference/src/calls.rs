@@ -1,13 +1,15 @@
 //! The calls of both sides as one table of functions, so that a case runs on either.
 
-use crate::answer::{Answer, CaptionAt, Floor, Form, Point, Row, Session};
-use crate::{caption, floor, form, journal, layout, links, query, sight};
+use crate::answer::{Answer, CaptionAt, Floor, Form, Mended, Point, Row, Session};
+use crate::{caption, floor, form, journal, layout, links, mend, query, sight};
 
 /// An edit: floor, journal, f, bench, place, and what to write there as 32 bits.
 pub type Edit = fn(&mut [u8], &mut [u8], u32, u32, u32, u32) -> Session;
 /// Records taken out again, by an undo or a put-back: floor, journal, f, bench.
 pub type TakeOut = fn(&mut [u8], &mut [u8], u32, u32) -> Session;
 
+/// A floor mended: floor, work memory, output, list.
+pub type Mend = fn(&[u8], &mut [u8], &mut [u8], &mut [u8]) -> Mended;
 /// A sight text renamed: layout, VIS, room, name, output.
 pub type SightRename = fn(&[u8], &[u8], u32, &[u8], &mut [u8]) -> Form;
 
@@ -17,6 +19,7 @@ pub struct Calls {
     pub name: &'static str,
     pub read: fn(&[u8], &mut [u8]) -> Floor,
     pub rewrite: fn(&[u8], &mut [u8], &mut [u8]) -> Form,
+    pub mend: Mend,
     pub query: fn(&[u8], &mut [u8], i32, i32) -> Point,
     pub paint: Edit,
     pub link: Edit,
@@ -37,6 +40,7 @@ pub const REFERENCE: Calls = Calls {
     name: "reference",
     read: floor::read,
     rewrite: form::rewrite,
+    mend: mend::mend,
     query: query::query,
     paint: journal::paint,
     link: |floor, journal, f, bench, entry, to| {
@@ -77,6 +81,8 @@ mod engine {
     extern "C" {
         fn wp_read(bytes: Bytes, n: usize, work: Lent, m: usize) -> Floor;
         fn wp_rewrite(bytes: Bytes, n: usize, work: Lent, m: usize, out: Lent, o: usize) -> Form;
+        fn wp_mend(bytes: Bytes, n: usize, work: Lent, m: usize, out: Lent, o: usize,
+            list: Lent, l: usize) -> Mended;
         fn wp_query(bytes: Bytes, n: usize, work: Lent, m: usize, x: i32, y: i32) -> Point;
         fn wp_paint(floor: Lent, n: usize, journal: Lent, m: usize, f: u32, bench: u32,
             face: u32, material: u32) -> Session;
@@ -105,6 +111,10 @@ mod engine {
         read: |b, w| unsafe { wp_read(b.as_ptr(), b.len(), w.as_mut_ptr(), w.len()) },
         rewrite: |b, w, o| unsafe {
             wp_rewrite(b.as_ptr(), b.len(), w.as_mut_ptr(), w.len(), o.as_mut_ptr(), o.len())
+        },
+        mend: |b, w, o, l| unsafe {
+            wp_mend(b.as_ptr(), b.len(), w.as_mut_ptr(), w.len(), o.as_mut_ptr(), o.len(),
+                l.as_mut_ptr(), l.len())
         },
         query: |b, w, x, y| unsafe { wp_query(b.as_ptr(), b.len(), w.as_mut_ptr(), w.len(), x, y) },
         paint: |b, j, f, bench, face, material| unsafe {

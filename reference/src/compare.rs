@@ -1,14 +1,16 @@
 //! Runs cases on two sides and compares every answer and every byte of every lent slice. Each side is also
-//! held to what M-107 says of the order of two edits and M-108 of runs of two benches.
+//! held to what M-107 says of the order of two edits, M-108 of runs of two benches and M-109 of mended floors.
 
 use crate::answer::Fields;
 use crate::benches;
 use crate::calls::Calls;
 use crate::fault::{self, Fault};
 use crate::generate::cases::{case, Call, Case, Lent};
+use crate::generate::seams::{enough, Mending};
 use crate::generate::sessions::{Edit, Move, Play};
 use crate::journal::{LINK, PAINT};
 use crate::order;
+use crate::seams;
 use crate::tally::Tally;
 
 /// One side of a comparison: its calls, and a fault planted while they run.
@@ -52,8 +54,8 @@ impl Done {
         self.lent(1)
     }
 
-    /// A lent slice between its guards.
-    fn lent(&self, number: usize) -> &[u8] {
+    /// A lent slice between its guards, by its number among those of the call.
+    pub fn lent(&self, number: usize) -> &[u8] {
         let buffer = &self.memory[number].1;
         &buffer[GUARD..buffer.len() - GUARD]
     }
@@ -63,10 +65,13 @@ impl Done {
 pub const GUARD: usize = 37;
 const GUARD_BYTE: u8 = 0xA5;
 
-/// Runs a case on one side: one call, the calls of a session, or all that is played with a pair.
+/// Runs a case on one side: one call, a mending and what is asked of its result, the calls of a session, or
+/// all that is played with a pair.
 pub fn run(case: &Case, side: &Side) -> Vec<Done> {
-    if let Case::One { call, lent } = case {
-        return vec![run_call(*call, lent, side)];
+    match case {
+        Case::One { call, lent } => return vec![run_call(*call, lent, side)],
+        Case::Mending(mending) => return run_mending(mending, side),
+        Case::Session(_) | Case::Pair(_) => (),
     }
     let plays = case.plays();
     plays
@@ -105,6 +110,7 @@ fn make(call: Call, calls: &Calls, lent: &mut [&mut [u8]]) -> Fields {
     match (call, lent) {
         (Call::Read, [b, w]) => (calls.read)(b, w).fields(),
         (Call::Rewrite, [b, w, out]) => (calls.rewrite)(b, w, out).fields(),
+        (Call::Mend, [b, w, out, list]) => (calls.mend)(b, w, out, list).fields(),
         (Call::Query { x, y }, [b, w]) => (calls.query)(b, w, x, y).fields(),
         (Call::Edit { f, edit: Edit { bench, tag, place, to } }, [floor, journal]) => {
             let edit = match tag {
@@ -126,6 +132,36 @@ fn make(call: Call, calls: &Calls, lent: &mut [&mut [u8]]) -> Fields {
         (Call::Caption { room }, [visitor, house]) => (calls.caption)(visitor, house, room).fields(),
         (call, lent) => unreachable!("{call:?} with {} slices", lent.len()),
     }
+}
+
+/// Mends a floor. What is written is read, rewritten and mended again, in the same lent memory; where an output was
+/// too short, the floor is mended once more with room enough.
+fn run_mending(mending: &Mending, side: &Side) -> Vec<Done> {
+    let work = ("work", mending.work.clone());
+    let outputs = || [("out", mending.out.clone()), ("list", mending.list.clone())];
+    let mend = |floor: &[u8], [out, list]: [Lent; 2]| {
+        let lent = [("floor", floor.to_vec()), work.clone(), out, list];
+        run_call(Call::Mend, &lent, side)
+    };
+    let mut all = vec![mend(&mending.floor, outputs())];
+    match all[0].number() {
+        0 => {
+            let Some(result) = seams::result(&all[0]).map(<[u8]>::to_vec) else {
+                return all; // says that it wrote more than there is
+            };
+            let [out, list] = outputs();
+            let lent = [("floor", result.clone()), work.clone(), out.clone()];
+            all.push(run_call(Call::Read, &lent[..2], side));
+            all.push(run_call(Call::Rewrite, &lent, side));
+            all.push(mend(&result, [out, list]));
+        }
+        40 => {
+            let [out, list] = enough(&mending.floor).map(|length| vec![GUARD_BYTE; length]);
+            all.push(mend(&mending.floor, [("out", out), ("list", list)]));
+        }
+        _ => (),
+    }
+    all
 }
 
 /// Runs a session: every call goes on with the floor, the journal and f that the last one left.
@@ -208,10 +244,11 @@ pub fn played<'a>(plays: &'a [Play], mut all: &'a [Done]) -> Vec<(&'a Play, &'a 
     played
 }
 
-/// The sentences about pairs and runs that one side broke in a case.
+/// The sentences about pairs, runs and mended floors that one side broke in a case.
 fn broken(case: &Case, all: &[Done]) -> Vec<String> {
     let mut found = match case {
         Case::Pair(pair) => order::broken(pair, all),
+        Case::Mending(mending) => seams::broken(mending, all),
         _ => Vec::new(),
     };
     for (play, of_play) in played(&case.plays(), all) {
@@ -220,8 +257,8 @@ fn broken(case: &Case, all: &[Done]) -> Vec<String> {
     found
 }
 
-/// All that is wrong with what both sides did in one case, in words: which sentence about pairs or runs
-/// either of them broke, and where they differ.
+/// All that is wrong with what both sides did in one case, in words: which sentence about pairs, runs or
+/// mended floors either of them broke, and where they differ.
 pub fn wrong(case: &Case, sides: [&Side; 2], done: [&[Done]; 2]) -> Vec<String> {
     let mut found = Vec::new();
     for (side, all) in sides.iter().zip(done) {
@@ -237,7 +274,7 @@ pub fn wrong(case: &Case, sides: [&Side; 2], done: [&[Done]; 2]) -> Vec<String> 
 }
 
 /// Runs cases 0 to `cases` - 1 of a seed on both sides. Tells each before it starts, and then each
-/// in which the sides differ or one of them breaks a sentence about pairs or runs.
+/// in which the sides differ or one of them breaks a sentence about pairs, runs or mended floors.
 pub fn compare(
     cases: u64,
     seed: u64,

@@ -56,10 +56,28 @@ pub enum Fault {
     StoppedPutBack,
     /// A bench 2 that passes.
     BenchTwo,
+    /// A corner mended to the highest vertex with equal coordinates.
+    HighestEqual,
+    /// Coordinates taken for equal by their bits, so that -0 is not 0.
+    EqualByBits,
+    /// A corner mended to the lowest equal vertex that a face uses.
+    LowestUsed,
+    /// Corners mended of walkable faces alone.
+    WalkableAlone,
+    /// A loop that goes on past its start where it can.
+    PastTheStart,
+    /// The first transition kept of two valid entries.
+    FirstEntryKept,
+    /// A transition that is lost but not listed.
+    LossNotListed,
+    /// Rule 15 not asked again of the changed corners: all half-edges are then taken for borders.
+    RunsNotAskedAgain,
+    /// A mended floor written before the list is found to be short.
+    FormBeforeList,
 }
 
 /// All faults with the names by which they are asked for.
-pub const FAULTS: [(&str, Fault); 25] = [
+pub const FAULTS: [(&str, Fault); 34] = [
     ("minus-zero", Fault::MinusZero),
     ("children-from-one", Fault::ChildrenFromOne),
     ("depth-65", Fault::DepthSixtyFive),
@@ -85,6 +103,15 @@ pub const FAULTS: [(&str, Fault); 25] = [
     ("put-back-clears-f", Fault::PutBackClearsF),
     ("stopped-put-back", Fault::StoppedPutBack),
     ("bench-two", Fault::BenchTwo),
+    ("highest-equal", Fault::HighestEqual),
+    ("equal-by-bits", Fault::EqualByBits),
+    ("lowest-used", Fault::LowestUsed),
+    ("walkable-alone", Fault::WalkableAlone),
+    ("past-the-start", Fault::PastTheStart),
+    ("first-entry-kept", Fault::FirstEntryKept),
+    ("loss-not-listed", Fault::LossNotListed),
+    ("runs-not-asked-again", Fault::RunsNotAskedAgain),
+    ("form-before-list", Fault::FormBeforeList),
 ];
 
 thread_local! {

@@ -1,4 +1,4 @@
-//! Rewriting a floor in its fixed form, and how any form is put into lent memory.
+//! Rewriting a floor in its fixed form, how tables are laid out in it, and how any form is put into lent memory.
 
 use crate::answer::{refuse_if, Checked, Form};
 use crate::floor;
@@ -6,7 +6,7 @@ use crate::floor::tables::{Table, Tables, FIELDS, HEADER};
 use crate::words::put_word;
 
 /// The tables in the order of the fixed form.
-const ORDER: [Table; 9] = [
+pub const ORDER: [Table; 9] = [
     Table::Vertices,
     Table::Faces,
     Table::Materials,
@@ -24,14 +24,20 @@ pub fn rewrite(bytes: &[u8], work: &mut [u8], out: &mut [u8]) -> Form {
     answer(written)
 }
 
-/// The fixed form: the same header numbers, the tables from 136 without gaps, and every offset the
-/// running position, also that of an empty table.
+/// The fixed form: the same header numbers and tables.
 pub fn fixed(tables: &Tables) -> Vec<u8> {
-    let mut form = tables.bytes[..HEADER].to_vec();
-    for table in ORDER {
+    let header = &tables.bytes[..HEADER];
+    laid_out(header, ORDER.map(|table| tables.bytes_of(table)))
+}
+
+/// Tables behind a header, from 136 without gaps and in the order of the fixed form; every offset is
+/// the running position, also that of an empty table.
+pub fn laid_out(header: &[u8], tables: [&[u8]; 9]) -> Vec<u8> {
+    let mut form = header.to_vec();
+    for (table, bytes) in ORDER.into_iter().zip(tables) {
         let position = form.len() as u32;
         put_word(&mut form, FIELDS[table as usize].offset, position);
-        form.extend_from_slice(tables.bytes_of(table));
+        form.extend_from_slice(bytes);
     }
     form
 }

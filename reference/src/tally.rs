@@ -7,6 +7,7 @@ use crate::floor::tables::{Table, FIELDS, ROOT_FIELD};
 use crate::generate::cases::Case;
 use crate::generate::damage::LARGE;
 use crate::order;
+use crate::seams;
 use crate::words::word_at;
 use std::collections::{BTreeMap, BTreeSet};
 
@@ -32,6 +33,8 @@ pub struct Tally {
     pub pairs: order::Counts,
     /// How often two benches came upon each other.
     pub benches: benches::Counts,
+    /// What mended floors were like.
+    pub seams: seams::Counts,
     pub cases: u64,
     pub different: u64,
 }
@@ -40,8 +43,10 @@ impl Tally {
     /// Adds what one side did in a case.
     pub fn add(&mut self, case: &Case, all: &[Done]) {
         self.cases += 1;
-        if let Case::Pair(pair) = case {
-            self.pairs.add(pair, all);
+        match case {
+            Case::Pair(pair) => self.pairs.add(pair, all),
+            Case::Mending(mending) => self.seams.add(mending, all),
+            Case::One { .. } | Case::Session(_) => (),
         }
         for (play, of_play) in played(&case.plays(), all) {
             self.benches.add(play, of_play);
@@ -104,7 +109,7 @@ impl Tally {
             .unwrap_or(0)
     }
 
-    /// Both tables, the roots, the large floors, the pairs of edits, the two benches and the last line.
+    /// Both tables, the roots, the large floors, the pairs of edits, the two benches, the mended floors and the last line.
     pub fn print(&self) {
         println!("{:<16}{:>9}", "call", "calls");
         for (call, count) in &self.calls {
@@ -132,6 +137,7 @@ impl Tally {
         );
         println!("{}", self.pairs.line());
         println!("{}", self.benches.line());
+        println!("{}", self.seams.line());
         println!("{} cases, {} differences", self.cases, self.different);
     }
 }

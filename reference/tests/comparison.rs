@@ -166,16 +166,12 @@ fn every_planted_fault_is_noticed() {
             calls: REFERENCE,
             fault: Some(fault),
         };
-        let tally = compare(
-            6_000,
-            3,
-            [&planted, &HONEST],
-            |_| (),
-            |_, found| {
-                assert!(!found.is_empty());
-            },
-        );
-        assert!(tally.different > 0, "{name} was not noticed");
+        let says_why = |_, found: Vec<String>| assert!(!found.is_empty());
+        let noticed = |cases: &u64| {
+            let tally = compare(*cases, 3, [&planted, &HONEST], |_| (), says_why);
+            tally.different > 0
+        };
+        assert!([500, 6_000].iter().any(noticed), "{name} was not noticed"); // most of them soon
     }
 }
 

@@ -4,6 +4,7 @@ use caption::CaptionAt;
 use floor::Floor;
 use journal::Session;
 use query::Point;
+use seams::Mended;
 use sight::Row;
 use verdict::Answer;
 use verdict::Form;
@@ -12,6 +13,7 @@ ghost use lib.ListN.{length};
 ghost use Rattle.verdict.specs.Output.{formAnswer, formMemory};
 ghost use Rattle.floor.specs.Reader.{readerAnswer, readerMemory};
 ghost use Rattle.floor.specs.Rewrite.{rewriteAnswer, rewriteMemory};
+ghost use Rattle.seams.specs.Mend.{mendAnswer, mendOutput, mendList};
 ghost use Rattle.query.specs.Points.{pointAnswer};
 ghost use Rattle.laying.specs.Area.{areaFloor};
 ghost use Rattle.journal.specs.Wish.{paint, link, nudge};
@@ -41,6 +43,17 @@ pub extern "C" fn wp_rewrite(bytes: &[u8], work: &mut [u8], out: &mut [u8]) -> F
     ensures output { λ _. ⌜ now (out .exit) ≡ rewriteMemory (now (bytes .entry)) (length (now (work .entry))) (now (out .entry)) ⌝ }
 {
     floor::rewrite(bytes, work, out)
+}
+
+// A floor mended: its fixed form, and the list of changes.
+#[no_mangle]
+pub extern "C" fn wp_mend(bytes: &[u8], work: &mut [u8], out: &mut [u8], list: &mut [u8]) -> Mended
+    ensures answer { λ r. ⌜ r ≡ mendAnswer (now (bytes .entry)) (length (now (work .entry))) (length (now (out .entry))) (length (now (list .entry))) ⌝ }
+    ensures memory { λ _. ⌜ now (work .exit) ≡ readerMemory (now (work .entry)) ⌝ }
+    ensures form { λ _. ⌜ now (out .exit) ≡ mendOutput (now (bytes .entry)) (length (now (work .entry))) (now (out .entry)) (now (list .entry)) ⌝ }
+    ensures list { λ _. ⌜ now (list .exit) ≡ mendList (now (bytes .entry)) (length (now (work .entry))) (now (out .entry)) (now (list .entry)) ⌝ }
+{
+    mend::mend(bytes, work, out, list)
 }
 
 // The point query, x and y in sixty-fourths.

@@ -1,10 +1,12 @@
-//! Reading, querying, editing and rewriting at growing sizes: the library beside this implementation.
+//! Reading, querying, mending, editing and rewriting at growing sizes: the library beside this implementation.
 
 use crate::answer::Session;
 use crate::calls::{Calls, OTHER, REFERENCE};
 use crate::floor::WORK;
 use crate::generate::fields::word_of;
+use crate::generate::model::Model;
 use crate::generate::random::Random;
+use crate::generate::seams::{enough, spread, stored_twice};
 use crate::generate::shapes::large;
 use crate::generate::texts;
 use crate::journal::{Record, MOST_RECORDS, NUDGE, PAINT, RECORD};
@@ -55,13 +57,19 @@ pub fn table() {
             });
         }
     }
+    mends_table(&sides);
     journals_table(&sides);
     texts_table(&sides);
 }
 
 /// A floor of this many faces that the reader accepts.
 fn bench(faces: usize, columns: usize, rows: usize) -> Bench {
-    let floor = large(&mut Random::new(1), columns, rows).in_order();
+    bench_of(&large(&mut Random::new(1), columns, rows), faces)
+}
+
+/// The same of a floor that is made already.
+fn bench_of(model: &Model, faces: usize) -> Bench {
+    let floor = model.in_order();
     let mut work = vec![0; WORK];
     let counts = (REFERENCE.read)(&floor, &mut work);
     assert_eq!((counts.number, counts.faces as usize), (0, faces));
@@ -92,6 +100,31 @@ fn query(side: &Calls, bench: &mut Bench) {
 /// Paints face 0 in an empty journal and undoes it.
 fn paint(side: &Calls, bench: &mut Bench) {
     paint_and_undo(side, &mut bench.floor, &mut bench.journal, 0);
+}
+
+/// Mending of floors without a seam, then of one whose vertices are all stored twice. Beside each stands what it is by
+/// the reader's time of the same floor.
+fn mends_table(sides: &[Calls]) {
+    let mut before = None;
+    for (faces, columns, rows) in SIZES {
+        let model = spread(&mut Random::new(1), columns, rows);
+        mend_row("mend", &model, faces, sides, &mut before);
+    }
+    let model = stored_twice(&mut Random::new(1));
+    mend_row("mend_twice", &model, model.faces.len(), sides, &mut None);
+}
+
+/// One row of mending, and on the last side what that is by reading.
+fn mend_row(name: &str, model: &Model, faces: usize, sides: &[Calls], before: &mut Option<f64>) {
+    let mut bench = bench_of(model, faces);
+    let [mut out, mut list] = enough(&bench.floor).map(|length| vec![0; length]);
+    let last = &sides[sides.len() - 1];
+    let reading = best(|| read(last, &mut bench));
+    let mending = timed(name, faces, sides, before, |side| {
+        let mended = (side.mend)(&bench.floor, &mut bench.work, &mut out, &mut list);
+        assert_eq!(mended.number, 0);
+    });
+    println!("{:>9.2} x read", mending / reading);
 }
 
 /// Bench 0 paints face 0 and undoes it, so that the next run finds the same floor and journal.
@@ -193,14 +226,27 @@ fn all_see_all(names: &[texts::Word]) -> texts::Plan {
     plan
 }
 
-/// One row: microseconds on each side, the second by the first, and the last by the row before.
+/// One row.
 fn row(
     name: &str,
     size: usize,
     sides: &[Calls],
     before: &mut Option<f64>,
-    mut call: impl FnMut(&Calls),
+    call: impl FnMut(&Calls),
 ) {
+    timed(name, size, sides, before, call);
+    println!();
+}
+
+/// A row without its end: microseconds on each side, the second by the first, and the last by the row before. Gives the
+/// time on the last side.
+fn timed(
+    name: &str,
+    size: usize,
+    sides: &[Calls],
+    before: &mut Option<f64>,
+    mut call: impl FnMut(&Calls),
+) -> f64 {
     let times: Vec<f64> = sides.iter().map(|side| best(|| call(side))).collect();
     print!("{name:<16}{size:>7}");
     for time in &times {
@@ -212,8 +258,9 @@ fn row(
         1 => "-".to_string(),
         _ => format!("{:.2}", last / times[0]),
     };
-    println!("{ratio:>9}{growth:>9}");
+    print!("{ratio:>9}{growth:>9}");
     *before = Some(last);
+    last
 }
 
 /// The best mean time of one call, in microseconds.

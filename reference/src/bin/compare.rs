@@ -123,6 +123,12 @@ fn handed_in(case: &Case) {
             println!("{call:?}");
             lent.iter().for_each(|(name, slice)| bytes(name, slice));
         }
+        Case::Mending(mending) => {
+            bytes("floor", &mending.floor);
+            bytes("out", &mending.out);
+            bytes("list", &mending.list);
+            println!("work, {} bytes", mending.work.len());
+        }
         Case::Session(play) => {
             bytes("floor", &play.floor);
             bytes("journal", &play.journal);

@@ -7,10 +7,10 @@ use crate::fault::{planted, Fault};
 use std::collections::HashMap;
 
 /// The adjacency entry of a border.
-const NO_PARTNER: u32 = 0xFFFF_FFFF;
+pub const NO_PARTNER: u32 = 0xFFFF_FFFF;
 
 /// The vertices from which and to which half-edge `h` runs.
-fn ends(tables: &Tables, h: usize) -> (usize, usize) {
+pub fn ends(tables: &Tables, h: usize) -> (usize, usize) {
     let corners = tables.corners(h / 3);
     (corners[h % 3], corners[(h % 3 + 1) % 3])
 }

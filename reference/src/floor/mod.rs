@@ -1,4 +1,4 @@
-//! The floor reader: rules 1 to 20 in the order of 01's table, then the counts.
+//! The floor reader: rules 1 to 20 in the order of 01's table, then the counts. Mending asks it too, but not for 16 to 19.
 
 pub mod border;
 pub mod mesh;
@@ -36,6 +36,12 @@ pub fn read(bytes: &[u8], work: &mut [u8]) -> Floor {
 /// The tables of an accepted floor, or the reader's refusal. Clears the work memory, as every caller
 /// of the reader must. This implementation keeps its own marks elsewhere.
 pub fn accepted<'a>(bytes: &'a [u8], work: &mut [u8]) -> Checked<Tables<'a>> {
+    enough_work(work)?; // 20
+    check(bytes)
+}
+
+/// Rule 20, and the work memory as the reader leaves it.
+pub(crate) fn enough_work(work: &mut [u8]) -> Checked<()> {
     let least = match planted(Fault::OldWork) {
         true => OLD_WORK,
         false => WORK,
@@ -44,11 +50,21 @@ pub fn accepted<'a>(bytes: &'a [u8], work: &mut [u8]) -> Checked<Tables<'a>> {
     if !planted(Fault::WorkKept) {
         work[..least].fill(0);
     }
-    check(bytes)
+    Ok(())
 }
 
 /// Rules 1 to 19.
 pub(crate) fn check(bytes: &[u8]) -> Checked<Tables<'_>> {
+    let (tables, partners) = check_to_15(bytes)?;
+    border::adjacency_is_right(&tables, &partners)?; // 16
+    border::edges_are_the_borders(&tables, &partners)?; // 17
+    border::transitions_are_right(&tables)?; // 18
+    border::perimeters_are_right(&tables)?; // 19
+    Ok(tables)
+}
+
+/// Rules 1 to 15, which ask nothing of the entries of adjacency, edges and perimeters. Gives each half-edge's partner too.
+pub(crate) fn check_to_15(bytes: &[u8]) -> Checked<(Tables<'_>, Vec<Option<usize>>)> {
     let tables = Tables::open(bytes)?; // 1 to 6
     mesh::floats_are_finite(&tables)?; // 7
     mesh::corners_are_right(&tables)?; // 8
@@ -59,9 +75,5 @@ pub(crate) fn check(bytes: &[u8]) -> Checked<Tables<'_>> {
     tree::is_one_tree(&nodes, tree::root(&tables), tables.count(Table::Faces))?; // 13
     tree::boxes_are_large_enough(&nodes, &tables)?; // 14
     let partners = border::partners(&tables)?; // 15
-    border::adjacency_is_right(&tables, &partners)?; // 16
-    border::edges_are_the_borders(&tables, &partners)?; // 17
-    border::transitions_are_right(&tables)?; // 18
-    border::perimeters_are_right(&tables)?; // 19
-    Ok(tables)
+    Ok((tables, partners))
 }

@@ -1,7 +1,8 @@
-//! One case of a comparison: a call with all that is lent to it, a session of calls, or a pair of edits.
+//! One case of a comparison: a call with all that is lent to it, a floor mended, a session of calls, or a pair of edits.
 
 use super::edit_pairs::{self, Pair};
 use super::random::Random;
+use super::seams::{self, Mending};
 use super::sessions::{self, Edit, Play};
 use super::texts::{self, Word};
 use super::{damage, floors, queries, text_damage};
@@ -15,6 +16,7 @@ use crate::{form, layout, sight};
 pub enum Call {
     Read,
     Rewrite,
+    Mend,
     Query { x: i32, y: i32 },
     Edit { f: u32, edit: Edit },
     Undo { f: u32, bench: u32 },
@@ -34,6 +36,7 @@ impl Call {
         match self {
             Call::Read => "read",
             Call::Rewrite => "rewrite",
+            Call::Mend => "mend",
             Call::Query { .. } => "query",
             Call::Edit { edit, .. } => match edit.tag {
                 PAINT => "paint",
@@ -73,10 +76,11 @@ impl Call {
 /// A lent slice and what it is called.
 pub type Lent = (&'static str, Vec<u8>);
 
-/// One call with all its slices, in the order of the exported call, a session, or a pair of edits.
+/// One call with all its slices, in the order of the exported call, a floor mended, a session, or a pair of edits.
 #[derive(Clone, Debug)]
 pub enum Case {
     One { call: Call, lent: Vec<Lent> },
+    Mending(Mending),
     Session(Play),
     Pair(Pair),
 }
@@ -85,7 +89,7 @@ impl Case {
     /// The sessions that are played: none, one, or all that a pair asks for.
     pub fn plays(&self) -> Vec<Play> {
         match self {
-            Case::One { .. } => Vec::new(),
+            Case::One { .. } | Case::Mending(_) => Vec::new(),
             Case::Session(play) => vec![play.clone()],
             Case::Pair(pair) => pair.plays(),
         }
@@ -99,11 +103,17 @@ fn one<const N: usize>(call: Call, lent: [Lent; N]) -> Case {
     }
 }
 
+/// One case in so many lends a small floor's outputs at every length in turn.
+pub const TURN: u64 = 20;
+
 /// Case number `number` of the run with this seed.
 pub fn case(seed: u64, number: u64) -> Case {
     let mut random = Random::of_case(seed, number);
     let random = &mut random;
-    match random.under(48) {
+    if number % TURN == TURN - 1 {
+        return Case::Mending(seams::in_turn(random, (number / TURN) as usize));
+    }
+    match random.under(59) {
         0..=11 => read(random),
         12 | 13 => rewrite(random),
         14..=18 => query(random),
@@ -115,12 +125,13 @@ pub fn case(seed: u64, number: u64) -> Case {
         38 | 39 => sight_row(random),
         40 | 41 => link_check(random),
         42 => caption(random),
+        43..=52 => Case::Mending(seams::mending(random)),
         _ => Case::Pair(edit_pairs::pair(random)),
     }
 }
 
 /// Work memory full of other bytes, now and then too little of it.
-fn work(random: &mut Random) -> Vec<u8> {
+pub(super) fn work(random: &mut Random) -> Vec<u8> {
     let length = match random.under(20) {
         0 => random.pick(&[0, 1, WORK - 1, WORK - 1, OLD_WORK, 40_000]),
         1..=4 => WORK + 1 + random.under(2_000),
@@ -142,7 +153,7 @@ fn out(random: &mut Random, wanted: usize) -> Vec<u8> {
     random.bytes(length)
 }
 
-fn any_floor(random: &mut Random) -> Vec<u8> {
+pub(super) fn any_floor(random: &mut Random) -> Vec<u8> {
     match random.under(10) {
         0 | 1 => damage::good(random),
         2 => damage::noise(random),

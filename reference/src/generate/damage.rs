@@ -24,7 +24,7 @@ pub fn good(random: &mut Random) -> Vec<u8> {
 }
 
 /// A valid floor as lists; now and then a chain as deep as the rule allows.
-fn any_model(random: &mut Random) -> Model {
+pub(super) fn any_model(random: &mut Random) -> Model {
     if random.once_in(60) {
         return floors::chain(random, 65);
     }
@@ -50,7 +50,7 @@ fn large_model(random: &mut Random) -> Model {
 }
 
 /// A floor with some faces, so that there is something to damage; now and then as many as allowed.
-fn some_model(random: &mut Random) -> Model {
+pub(super) fn some_model(random: &mut Random) -> Model {
     if random.once_in(RARE) {
         return large_model(random);
     }
@@ -66,10 +66,15 @@ fn some_model(random: &mut Random) -> Model {
 /// A floor damaged at one to three places, aimed at any rules, the later ones more often. Large floors
 /// are rare, so most of them are kept for the two rules that they are made for.
 pub fn bad(random: &mut Random) -> Vec<u8> {
-    let mut model = match random.once_in(8) {
+    let model = match random.once_in(8) {
         true => any_model(random),
         false => some_model(random),
     };
+    damaged(model, random)
+}
+
+/// A floor damaged so.
+pub(super) fn damaged(mut model: Model, random: &mut Random) -> Vec<u8> {
     let aims = match model.faces.len() < LARGE || random.once_in(4) {
         true => any_aims(random),
         false => vec![random.pick(&[15, 16])],
@@ -211,7 +216,7 @@ fn not_finite(bytes: &mut [u8], random: &mut Random) {
     }
 }
 
-fn damage_model(model: &mut Model, random: &mut Random, aim: u32) {
+pub(super) fn damage_model(model: &mut Model, random: &mut Random, aim: u32) {
     if model.faces.is_empty() {
         model.nodes.push([0; 11]); // 11 at 100, whatever the root
         return;
@@ -407,22 +412,28 @@ fn wrong_transition(model: &mut Model, random: &mut Random) {
 fn wrong_perimeter(model: &mut Model, random: &mut Random) {
     let edges = model.edges.len();
     let last = model.perimeters.last().copied().unwrap_or(0);
+    let after = last.wrapping_add(1);
     if edges < 2 || model.perimeters.is_empty() {
-        model.perimeters.push(random.pick(&[0, 1, last, last + 1]));
+        model.perimeters.push(random.pick(&[0, 1, last, after]));
         return;
     }
     match random.under(10) {
         0 => drop(model.perimeters.pop()),
         1 => model.perimeters.push(last),
-        2 => model.perimeters.push(last + 1),
+        2 => model.perimeters.push(after),
         3 => model.perimeters.insert(0, 0),
         4 => model.perimeters.reverse(),
         5 => *any(&mut model.perimeters, random) = random.odd_word(),
-        6 => *any(&mut model.perimeters, random) += 1,
-        7 => *any(&mut model.perimeters, random) -= 1,
+        6 => add(any(&mut model.perimeters, random), 1),
+        7 => add(any(&mut model.perimeters, random), NONE),
         8 => split_loop(model, random),
         _ => model.edges.swap(random.under(edges), random.under(edges)),
     }
+}
+
+/// Adds without regard to an overflow: entries may be any words already.
+fn add(entry: &mut u32, by: u32) {
+    *entry = entry.wrapping_add(by);
 }
 
 /// Ends a loop early, where it may or may not have come back to its start; or joins two loops.

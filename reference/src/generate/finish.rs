@@ -201,7 +201,7 @@ pub fn add_adjacency(model: &mut Model) {
 
 /// Walks the borders loop by loop, from the lowest one or from any. As many borders leave a vertex as
 /// arrive there, so every walk comes back; where a loop meets its start it may end or go on.
-fn add_edges(model: &mut Model, random: &mut Random, in_order: bool) {
+pub(super) fn add_edges(model: &mut Model, random: &mut Random, in_order: bool) {
     let mut leaving: HashMap<u32, Vec<u32>> = HashMap::new();
     let mut borders: Vec<u32> = (0..3 * model.adjacency.len() as u32)
         .filter(|&h| model.adjacency[h as usize / 3][h as usize % 3] == NONE)

@@ -1,5 +1,5 @@
-//! Seeded cases: valid floors and texts, damaged ones aimed at every refusal, sessions of two benches, pairs of edits
-//! and queries.
+//! Seeded cases: valid floors and texts, damaged ones aimed at every refusal, floors with split seams, sessions of two
+//! benches, pairs of edits and queries.
 
 pub mod cases;
 pub mod damage;
@@ -13,6 +13,7 @@ pub mod pair_damage;
 pub mod queries;
 pub mod random;
 pub mod runs;
+pub mod seams;
 pub mod sessions;
 pub mod shapes;
 pub mod text_damage;

@@ -48,7 +48,7 @@ pub fn repeat_last(model: &mut Model, random: &mut Random) {
 }
 
 /// Boxes that hold whatever the faces become.
-fn widen_all(model: &mut Model) {
+pub(super) fn widen_all(model: &mut Model) {
     for node in &mut model.nodes {
         node[..3].fill((-3.0e38_f32).to_bits());
         node[3..6].fill(3.0e38_f32.to_bits());

@@ -1,0 +1,3 @@
+pub mod Memory
+pub mod Ready
+pub mod Steps

@@ -1,0 +1,5 @@
+pub mod Points
+pub mod Map
+pub mod Runs
+pub mod Mates
+pub mod Verdict

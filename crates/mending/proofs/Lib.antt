@@ -1,0 +1,4 @@
+pub mod Puts
+pub mod Tables
+pub mod Records
+pub mod Form

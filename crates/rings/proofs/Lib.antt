@@ -1,0 +1,13 @@
+pub mod Counts
+pub mod Balance
+pub mod Unused
+pub mod Heads
+pub mod Runs
+pub mod Walk
+pub mod Complete
+pub mod Places
+pub mod Afresh
+pub mod Again
+pub mod Turns
+pub mod Examples
+pub mod Lengths

@@ -1,0 +1,4 @@
+pub mod Mended
+pub mod Changes
+pub mod Mend
+pub mod Plain
