@@ -152,7 +152,8 @@ wp_session wp_undo(uint8_t *floor, size_t floor_length, uint8_t *journal, size_t
 wp_session wp_put_back(uint8_t *floor, size_t floor_length, uint8_t *journal, size_t journal_length,
                        uint32_t f, uint32_t bench);
 
-/* Layout texts (LYT) in their fixed form, as they are or with one room renamed. */
+/* Layout texts (LYT) in their fixed form, as they are or with one room renamed: names in lower case, and every number
+   with the digits typed after its point. */
 wp_form wp_layout_rewrite(const uint8_t *text, size_t text_length, uint8_t *out, size_t out_length);
 wp_form wp_layout_rename(const uint8_t *text, size_t text_length, uint32_t room,
                          const uint8_t *name, size_t name_length, uint8_t *out, size_t out_length);

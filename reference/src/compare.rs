@@ -1,9 +1,11 @@
 //! Runs cases on two sides and compares every answer and every byte of every lent slice. Each side is also
-//! held to what M-107 says of the order of two edits, M-108 of runs of two benches and M-109 of mended floors.
+//! held to what M-104 says of rewritten layouts, M-107 of the order of two edits, M-108 of runs of two benches
+//! and M-109 of mended floors.
 
 use crate::answer::Fields;
 use crate::benches;
 use crate::calls::Calls;
+use crate::digits;
 use crate::fault::{self, Fault};
 use crate::generate::cases::{case, Call, Case, Lent};
 use crate::generate::seams::{enough, Mending};
@@ -65,11 +67,11 @@ impl Done {
 pub const GUARD: usize = 37;
 const GUARD_BYTE: u8 = 0xA5;
 
-/// Runs a case on one side: one call, a mending and what is asked of its result, the calls of a session, or
-/// all that is played with a pair.
+/// Runs a case on one side: one call, a layout's form once more, a mending and what is asked of its result,
+/// the calls of a session, or all that is played with a pair.
 pub fn run(case: &Case, side: &Side) -> Vec<Done> {
     match case {
-        Case::One { call, lent } => return vec![run_call(*call, lent, side)],
+        Case::One { call, lent } => return run_one(*call, lent, side),
         Case::Mending(mending) => return run_mending(mending, side),
         Case::Session(_) | Case::Pair(_) => (),
     }
@@ -78,6 +80,17 @@ pub fn run(case: &Case, side: &Side) -> Vec<Done> {
         .iter()
         .flat_map(|play| run_session(play, side))
         .collect()
+}
+
+/// Runs one call. A layout's form that it wrote is then rewritten, to see that this changes no byte.
+fn run_one(call: Call, lent: &[Lent], side: &Side) -> Vec<Done> {
+    let done = run_call(call, lent, side);
+    let again = digits::form(&done).map(|form| {
+        let out = vec![GUARD_BYTE; form.len()];
+        let lent = [("text", form.to_vec()), ("out", out)];
+        run_call(Call::LayoutRewrite, &lent, side)
+    });
+    [Some(done), again].into_iter().flatten().collect()
 }
 
 /// Runs one call over slices that sit inside larger buffers, with the side's fault planted meanwhile.
@@ -244,12 +257,13 @@ pub fn played<'a>(plays: &'a [Play], mut all: &'a [Done]) -> Vec<(&'a Play, &'a 
     played
 }
 
-/// The sentences about pairs, runs and mended floors that one side broke in a case.
+/// The sentences about layouts, pairs, runs and mended floors that one side broke in a case.
 fn broken(case: &Case, all: &[Done]) -> Vec<String> {
     let mut found = match case {
         Case::Pair(pair) => order::broken(pair, all),
         Case::Mending(mending) => seams::broken(mending, all),
-        _ => Vec::new(),
+        Case::One { .. } => digits::broken(all),
+        Case::Session(_) => Vec::new(),
     };
     for (play, of_play) in played(&case.plays(), all) {
         found.extend(benches::broken(play, of_play));
@@ -257,8 +271,8 @@ fn broken(case: &Case, all: &[Done]) -> Vec<String> {
     found
 }
 
-/// All that is wrong with what both sides did in one case, in words: which sentence about pairs, runs or
-/// mended floors either of them broke, and where they differ.
+/// All that is wrong with what both sides did in one case, in words: which sentence about layouts, pairs,
+/// runs or mended floors either of them broke, and where they differ.
 pub fn wrong(case: &Case, sides: [&Side; 2], done: [&[Done]; 2]) -> Vec<String> {
     let mut found = Vec::new();
     for (side, all) in sides.iter().zip(done) {
@@ -274,7 +288,7 @@ pub fn wrong(case: &Case, sides: [&Side; 2], done: [&[Done]; 2]) -> Vec<String> 
 }
 
 /// Runs cases 0 to `cases` - 1 of a seed on both sides. Tells each before it starts, and then each
-/// in which the sides differ or one of them breaks a sentence about pairs, runs or mended floors.
+/// in which the sides differ or one of them breaks a sentence about layouts, pairs, runs or mended floors.
 pub fn compare(
     cases: u64,
     seed: u64,

@@ -74,10 +74,20 @@ pub enum Fault {
     RunsNotAskedAgain,
     /// A mended floor written before the list is found to be short.
     FormBeforeList,
+    /// Numbers written with six digits after the point, however many were typed.
+    SixDigits,
+    /// Numbers written with one digit more after the point than was typed, where there may be one more.
+    OneDigitMore,
+    /// Numbers written without the zeros at their end, and without the point if nothing else stood there.
+    ZerosDropped,
+    /// Numbers that were typed without a point written with one.
+    BarePoint,
+    /// Minus zero that keeps its minus where digits stand after the point.
+    MinusZeroTyped,
 }
 
 /// All faults with the names by which they are asked for.
-pub const FAULTS: [(&str, Fault); 34] = [
+pub const FAULTS: [(&str, Fault); 39] = [
     ("minus-zero", Fault::MinusZero),
     ("children-from-one", Fault::ChildrenFromOne),
     ("depth-65", Fault::DepthSixtyFive),
@@ -112,6 +122,11 @@ pub const FAULTS: [(&str, Fault); 34] = [
     ("loss-not-listed", Fault::LossNotListed),
     ("runs-not-asked-again", Fault::RunsNotAskedAgain),
     ("form-before-list", Fault::FormBeforeList),
+    ("six-digits", Fault::SixDigits),
+    ("one-digit-more", Fault::OneDigitMore),
+    ("zeros-dropped", Fault::ZerosDropped),
+    ("bare-point", Fault::BarePoint),
+    ("minus-zero-typed", Fault::MinusZeroTyped),
 ];
 
 thread_local! {

@@ -2,7 +2,8 @@
 
 use crate::answer::{refuse, refuse_if, Checked, Form};
 use crate::form;
-use crate::text::{self, count_on, is_name, lower, millionths_of, Line, Lines};
+use crate::number::Number;
+use crate::text::{self, count_on, is_name, lower, Line, Lines};
 
 /// A room, track or obstacle. `start` and `length` say where its name stands in the text.
 #[derive(Clone, Debug, PartialEq, Eq)]
@@ -10,7 +11,7 @@ pub struct Entry {
     pub name: Vec<u8>,
     pub start: usize,
     pub length: usize,
-    pub millionths: [i64; 3],
+    pub numbers: [Number; 3],
 }
 
 /// The parts of a layout; names are in lower case.
@@ -88,7 +89,7 @@ fn entry_on(line: &Line) -> Checked<Entry> {
         return refuse(33, line.number);
     };
     refuse_if(!is_name(name.bytes), 34, line.number)?;
-    let numbers = [x, y, z].map(|word| millionths_of(word.bytes));
+    let numbers = [x, y, z].map(|word| Number::of(word.bytes));
     let [Some(x), Some(y), Some(z)] = numbers else {
         return refuse(35, line.number);
     };
@@ -96,7 +97,7 @@ fn entry_on(line: &Line) -> Checked<Entry> {
         name: lower(name.bytes),
         start: name.start,
         length: name.bytes.len(),
-        millionths: [x, y, z],
+        numbers: [x, y, z],
     })
 }
 
@@ -115,9 +116,9 @@ fn section(form: &mut Vec<u8>, keyword: &str, entries: &[Entry]) {
     form.extend_from_slice(format!("{keyword} {}\n", entries.len()).as_bytes());
     for entry in entries {
         form.extend_from_slice(&entry.name);
-        for millionths in entry.millionths {
+        for number in entry.numbers {
             form.push(b' ');
-            form.extend_from_slice(text::written(millionths).as_bytes());
+            form.extend_from_slice(number.written().as_bytes());
         }
         form.push(b'\n');
     }

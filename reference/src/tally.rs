@@ -3,6 +3,7 @@
 
 use crate::benches;
 use crate::compare::{played, Done};
+use crate::digits;
 use crate::floor::tables::{Table, FIELDS, ROOT_FIELD};
 use crate::generate::cases::Case;
 use crate::generate::damage::LARGE;
@@ -35,6 +36,8 @@ pub struct Tally {
     pub benches: benches::Counts,
     /// What mended floors were like.
     pub seams: seams::Counts,
+    /// How numbers were typed in layouts that were rewritten.
+    pub digits: digits::Counts,
     pub cases: u64,
     pub different: u64,
 }
@@ -46,7 +49,8 @@ impl Tally {
         match case {
             Case::Pair(pair) => self.pairs.add(pair, all),
             Case::Mending(mending) => self.seams.add(mending, all),
-            Case::One { .. } | Case::Session(_) => (),
+            Case::One { .. } => self.digits.add(all),
+            Case::Session(_) => (),
         }
         for (play, of_play) in played(&case.plays(), all) {
             self.benches.add(play, of_play);
@@ -109,7 +113,8 @@ impl Tally {
             .unwrap_or(0)
     }
 
-    /// Both tables, the roots, the large floors, the pairs of edits, the two benches, the mended floors and the last line.
+    /// Both tables, the roots, the large floors, the pairs of edits, the two benches, the mended floors, the numbers typed
+    /// and the last line.
     pub fn print(&self) {
         println!("{:<16}{:>9}", "call", "calls");
         for (call, count) in &self.calls {
@@ -138,6 +143,7 @@ impl Tally {
         println!("{}", self.pairs.line());
         println!("{}", self.benches.line());
         println!("{}", self.seams.line());
+        println!("{}", self.digits.line());
         println!("{} cases, {} differences", self.cases, self.different);
     }
 }

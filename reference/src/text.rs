@@ -1,4 +1,4 @@
-//! What layout and sight texts share: byte classes, lines, words, names, numbers and counts.
+//! What layout and sight texts share: byte classes, lines, words, names and counts.
 
 use crate::answer::{refuse, refuse_if, refuse_lowest, Checked};
 use crate::fault::{planted, Fault};
@@ -154,46 +154,11 @@ pub fn count_of(bytes: &[u8]) -> Option<usize> {
         .filter(|&count| count <= GREATEST_COUNT)
 }
 
-/// A number in whole millionths: optional minus, 1 to 5 digits, optionally a point and 1 to 6 digits.
-pub fn millionths_of(bytes: &[u8]) -> Option<i64> {
-    let (negative, magnitude) = match bytes.split_first() {
-        Some((b'-', rest)) => (true, rest),
-        _ => (false, bytes),
-    };
-    let (whole, part) = match magnitude.iter().position(|&byte| byte == b'.') {
-        Some(point) => (&magnitude[..point], Some(&magnitude[point + 1..])),
-        None => (magnitude, None),
-    };
-    if !(1..=5).contains(&whole.len()) {
-        return None;
-    }
-    let behind = match part {
-        None => 0,
-        Some(part) if (1..=6).contains(&part.len()) => {
-            digits(part)? * 10_i64.pow(6 - part.len() as u32)
-        }
-        Some(_) => return None,
-    };
-    let millionths = digits(whole)? * 1_000_000 + behind;
-    Some(if negative { -millionths } else { millionths })
-}
-
-/// A number of digits only.
-fn digits(bytes: &[u8]) -> Option<i64> {
+/// What digits say, if these are digits only.
+pub fn digits(bytes: &[u8]) -> Option<i64> {
     bytes.iter().try_fold(0, |number, byte| {
         (class_of(*byte) == Class::Digit).then(|| number * 10 + i64::from(byte - b'0'))
     })
-}
-
-/// Millionths written out: no needless leading zeros, six digits after the point, no minus zero.
-pub fn written(millionths: i64) -> String {
-    let sign = if millionths < 0 { "-" } else { "" };
-    let magnitude = millionths.abs();
-    format!(
-        "{sign}{}.{:06}",
-        magnitude / 1_000_000,
-        magnitude % 1_000_000
-    )
 }
 
 /// Whether a line that has the right keyword and number of words also states a right count.

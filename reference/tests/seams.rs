@@ -6,7 +6,7 @@ mod common;
 use common::*;
 use reference::answer::Mended;
 use reference::calls::{Calls, Mend, REFERENCE};
-use reference::compare::{compare, run, Side};
+use reference::compare::{compare, run};
 use reference::fault::Fault;
 use reference::floor::tables::{Table, Tables, FIELDS};
 use reference::floor::WORK;
@@ -124,30 +124,8 @@ fn lengths_around_what_is_needed_occur_and_so_does_work_memory_around_its_size()
     );
 }
 
-/// What is found wrong in many cases if both sides are this one: sentences alone, for they do not differ.
-fn broken_by_both(calls: Calls, fault: Option<Fault>) -> Vec<String> {
-    let side = Side { calls, fault };
-    let mut all = Vec::new();
-    compare(
-        3_000,
-        3,
-        [&side, &side],
-        |_| (),
-        |_, found| all.extend(found),
-    );
-    for words in &all {
-        assert!(words.starts_with("reference breaks: "), "{words}");
-    }
-    all
-}
-
-/// Checks that each of these sentences is among what was found.
-fn are_noticed(found: &[String], sentences: &[&str]) {
-    for sentence in sentences {
-        let noticed = found.iter().any(|words| words.contains(sentence));
-        assert!(noticed, "not noticed: {sentence}");
-    }
-}
+/// How many cases show each broken sentence.
+const CASES: u64 = 3_000;
 
 #[test]
 fn planted_faults_break_sentences() {
@@ -163,7 +141,7 @@ fn planted_faults_break_sentences() {
         (Fault::FormBeforeList, &[NEITHER]),
         (Fault::WorkKept, &[WORK_LEFT]),
     ] {
-        let found = broken_by_both(REFERENCE, Some(fault));
+        let found = broken_by_both(CASES, REFERENCE, Some(fault));
         are_noticed(&found, sentences);
     }
 }
@@ -269,7 +247,7 @@ fn other_wrong_mendings_are_noticed() {
         ("reader", reader, &[NUMBERS]),
         ("nothing asked", nothing_asked, &[TO_15, OWN_FORM]),
     ] {
-        let found = broken_by_both(Calls { mend, ..REFERENCE }, None);
+        let found = broken_by_both(CASES, Calls { mend, ..REFERENCE }, None);
         assert!(!found.is_empty(), "{name}");
         are_noticed(&found, sentences);
     }
@@ -291,7 +269,7 @@ fn a_mending_that_says_more_than_there_is_is_noticed() {
         mend: more,
         ..REFERENCE
     };
-    are_noticed(&broken_by_both(calls, None), &[REST]);
+    are_noticed(&broken_by_both(CASES, calls, None), &[REST]);
 }
 
 #[test]

@@ -298,7 +298,7 @@ fn a_renamed_sight_text_reads_with_the_renamed_layout() {
     let mut out = vec![0; 900];
     let length = layout::rename(layout, 1, b"Attic", &mut out).length;
     let renamed = out[..length as usize].to_vec();
-    assert!(String::from_utf8_lossy(&renamed).contains("\nattic 1.000000 2.000000 3.000000\n"));
+    assert!(String::from_utf8_lossy(&renamed).contains("\nattic 1 2 3\n"));
     let length = sight::rename(layout, b"cave 1\nhall\nhall 1\ncave", 1, b"Attic", &mut out).length;
     let vis = out[..length as usize].to_vec();
     assert_eq!(vis, b"hall 1\n  attic\nattic 1\n  hall\nroof 0\n");

@@ -136,30 +136,8 @@ fn runs_of_every_kind_occur() {
     }
 }
 
-/// What is found wrong in many cases if both sides are this one: sentences alone, for they do not differ.
-fn broken_by_both(calls: Calls, fault: Option<Fault>) -> Vec<String> {
-    let side = Side { calls, fault };
-    let mut all = Vec::new();
-    compare(
-        4_000,
-        3,
-        [&side, &side],
-        |_| (),
-        |_, found| all.extend(found),
-    );
-    for words in &all {
-        assert!(words.starts_with("reference breaks: "), "{words}");
-    }
-    all
-}
-
-/// Checks that each of these sentences is among what was found.
-fn are_noticed(found: &[String], sentences: &[&str]) {
-    for sentence in sentences {
-        let noticed = found.iter().any(|words| words.contains(sentence));
-        assert!(noticed, "not noticed: {sentence}");
-    }
-}
+/// How many cases show each broken sentence.
+const CASES: u64 = 4_000;
 
 #[test]
 fn planted_faults_break_sentences() {
@@ -177,7 +155,7 @@ fn planted_faults_break_sentences() {
         (Fault::StoppedPutBack, &[PLAIN_LIST, ONE_CAN_UNDO]),
         (Fault::BenchTwo, &[BELOW_HALF]),
     ] {
-        let found = broken_by_both(REFERENCE, Some(fault));
+        let found = broken_by_both(CASES, REFERENCE, Some(fault));
         are_noticed(&found, sentences);
     }
 }
@@ -194,7 +172,7 @@ fn a_bench_that_any_record_of_the_other_hinders_is_noticed() {
         },
         ..REFERENCE
     };
-    are_noticed(&broken_by_both(calls, None), &[ONE_CAN_UNDO]);
+    are_noticed(&broken_by_both(CASES, calls, None), &[ONE_CAN_UNDO]);
 }
 
 #[test]
@@ -206,7 +184,7 @@ fn a_put_back_that_takes_out_one_record_alone_is_noticed() {
         },
         ..REFERENCE
     };
-    are_noticed(&broken_by_both(calls, None), &[OWN_GONE]);
+    are_noticed(&broken_by_both(CASES, calls, None), &[OWN_GONE]);
 }
 
 /// Whether the floor breaks none of the rules 1 to 6, which come before all that is asked of a session.

@@ -129,7 +129,7 @@ fn w12_a_journal_of_31_bytes_is_full_and_one_of_32_holds_one_edit_for_each_bench
 #[test]
 fn the_whole_case_of_a_layout() {
     let (answer, written) = layout_form("beginlayout\nroomcount 1\nHall 1.5 0 -0\ndonelayout");
-    let form = "beginlayout\nroomcount 1\nhall 1.500000 0.000000 0.000000\ntrackcount 0\n\
+    let form = "beginlayout\nroomcount 1\nhall 1.5 0 0\ntrackcount 0\n\
                 obstaclecount 0\ndoorhookcount 0\ndonelayout\n";
     assert_eq!(String::from_utf8(written).unwrap(), form);
     assert_eq!(answer.length as usize, form.len());

@@ -19,7 +19,7 @@ use Rattle.rooms.specs.Rooms.{nameVerdict}
 use Rattle.layout.specs.Starts.{layoutRead}
 use Rattle.layout.proofs.ReadLaws.{layout-good}
 use Rattle.rooms.proofs.RoomLaws.{verdict-is, verdict-accepts}
-use Rattle.layoutform.specs.Form.{entryOf, partsOf, partsOfTyped, formText}
+use Rattle.layoutform.specs.Form.{entryOf, partsOf, partsOfTyped, formText, longestForm}
 use Rattle.layoutform.specs.Rewrite.{renamed, renamedForm, rewriteVerdict, renameVerdict}
 use Rattle.layoutform.proofs.FormTrip.{form-within}
 use Rattle.layoutform.proofs.LengthLaws.{form-short}
@@ -38,7 +38,7 @@ module _ (s : List ℕ) (r : Layout) (a : r ≡ layoutRead s) where
   unfolding renamed partsOf partsOfTyped
   own-name w = rw (renamed-past (map entryOf (layoutOf s .rooms)) 64 (lowered w) (omega (arith, length-map (layoutOf s .rooms) entryOf, layout-good s .few-rooms)))
 
-  pub own-short : (w : Word) → length (renamedForm s 64 w) ≤ 12000
+  pub own-short : (w : Word) → length (renamedForm s 64 w) ≤ longestForm
   own-short w = rw (own-name w) (form-within s)
 
   pub rewrite-by : (w : Word) (f : Form) (new o : List ℕ) → r .number ≡ 0 → Answers f new (rule40 (renamedForm s 64 w) (length o)) (renamedForm s 64 w) o → Answers f new (rewriteVerdict s (length o)) (formText (partsOf s)) o
@@ -68,7 +68,7 @@ module _ (s : List ℕ) (r : Layout) (a : r ≡ layoutRead s) where
           pub rename-name : length w ≤ 16
           rename-name = name-long w (named .name) .1
 
-          pub rename-short : length (renamedForm s i w) ≤ 12000
+          pub rename-short : length (renamedForm s i w) ≤ longestForm
           rename-short = form-short (renamed (partsOf s) i w) (renamed-good s i w (named .name) (named .new))
 
           pub rename-by : (f : Form) (new : List ℕ) → Answers f new (rule40 (renamedForm s i w) (length o)) (renamedForm s i w) o → Answers f new (renameVerdict s i w (length o)) (renamedForm s i w) o

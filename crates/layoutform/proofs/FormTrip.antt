@@ -1,11 +1,11 @@
--- The fixed form's text is accepted and read as the same parts, with six places; a second rewriting changes no byte. Assumes nothing.
+-- The fixed form's text is accepted and read as the same parts; a second rewriting changes no byte. Assumes nothing.
 use mathlib.Core.Path.{_≡_, refl, ap, _∙_}
 use mathlib.Core.Bool.{Bool, true, false, _||_}
 use mathlib.Core.List.{List, []}
 use Prim.Native.Nat.{ℕ, _≤_}
 use native.Mathlib.Omega.{arith}
 use lib.Dec.{ltb}
-use lib.ListN.{length, length-map}
+use lib.ListN.{length}
 use borrow.Author.Tests.{le-ltb}
 use Rattle.verdict.specs.declared.Answer.{Answer}
 use Rattle.verdict.specs.Verdict.{accepted, rule}
@@ -19,11 +19,11 @@ use Rattle.number.proofs.WordLaws.{count-plain}
 use Rattle.text.specs.Reading.{Word}
 use Rattle.layout.specs.Grammar.{Reading, start, readFrom, beginlayout, roomcount, trackcount, obstaclecount, doorhookcount, donelayout}
 use Rattle.layout.specs.Layout.{grammar, layoutVerdict, layoutOf}
-use Rattle.layoutform.specs.Form.{Entry, LayoutParts, partsOfTyped, partsOf, sixedParts, sixedEntry, entryLine, section, form, formText}
+use Rattle.layoutform.specs.Form.{Entry, LayoutParts, partsOfTyped, partsOf, entryLine, section, form, formText, longestForm}
 use Rattle.text.specs.Written.{rule40}
 use Rattle.verdict.proofs.Each.{Each, each-append, each-map}
 use Rattle.layout.proofs.ReadLaws.{verdict-sound, layout-accepted}
-use Rattle.layoutform.proofs.PartLaws.{GoodEntry, GoodParts, parts-good, line-plain, lines-again, lines-sixed}
+use Rattle.layoutform.proofs.PartLaws.{GoodEntry, GoodParts, parts-good, line-plain, lines-again}
 use Rattle.layoutform.proofs.FormLaws.{formTyped, form-lines}
 use Rattle.layoutform.proofs.LengthLaws.{form-short}
 
@@ -84,8 +84,8 @@ module _ (p : LayoutParts) (g : GoodParts p) where
   pub good-typed-again : layoutOf (formText p) ≡ formTyped p
   good-typed-again = layout-accepted (formText p) (ap (λ (a : Answer). a .number) good-accepted) ∙ ap (λ (r : Reading). r .typed) form-grammar
 
-  pub good-again : partsOf (formText p) ≡ sixedParts p
-  unfolding partsOf partsOfTyped sixedParts formTyped
+  pub good-again : partsOf (formText p) ≡ p
+  unfolding partsOf partsOfTyped formTyped
   good-again = ap partsOfTyped good-typed-again ∙ rw (lines-again (p .rooms) (g .rooms), lines-again (p .tracks) (g .tracks), lines-again (p .obstacles) (g .obstacles))
 
   -- the form is never over 65,536 bytes: 40 is for an output that is too short alone
@@ -97,25 +97,19 @@ module _ (p : LayoutParts) (g : GoodParts p) where
       or-no true = refl
       or-no false = refl
 
--- six places are written as they were
-pub sixed-form : (p : LayoutParts) → formText (sixedParts p) ≡ formText p
-unfolding formText form section sixedParts
-sixed-form p =
-    rw (length-map (p .rooms) sixedEntry, length-map (p .tracks) sixedEntry, length-map (p .obstacles) sixedEntry, lines-sixed (p .rooms), lines-sixed (p .tracks), lines-sixed (p .obstacles))
-
 -- ---- the theorems, for the parts of every text
 
 -- the form's text is accepted ..
 pub form-accepted : (s : List ℕ) → layoutVerdict (formText (partsOf s)) ≡ accepted
 form-accepted s = good-accepted (partsOf s) (parts-good s)
 
--- .. and read as the same parts: names, signs and millionths, each number now with six places
-pub form-read : (s : List ℕ) → partsOf (formText (partsOf s)) ≡ sixedParts (partsOf s)
+-- .. and read as the same parts: names, signs, millionths and how many digits stood after the point
+pub form-read : (s : List ℕ) → partsOf (formText (partsOf s)) ≡ partsOf s
 form-read s = good-again (partsOf s) (parts-good s)
 
 -- a second rewriting changes no byte
 pub form-twice : (s : List ℕ) → formText (partsOf (formText (partsOf s))) ≡ formText (partsOf s)
-form-twice s = ap formText (form-read s) ∙ sixed-form (partsOf s)
+form-twice s = ap formText (form-read s)
 
-pub form-within : (s : List ℕ) → length (formText (partsOf s)) ≤ 12000
+pub form-within : (s : List ℕ) → length (formText (partsOf s)) ≤ longestForm
 form-within s = form-short (partsOf s) (parts-good s)

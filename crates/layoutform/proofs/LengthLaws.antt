@@ -1,18 +1,17 @@
--- How long the fixed form is: at most 12,000 bytes. Assumes nothing.
+-- How long the fixed form is at most. Assumes nothing.
 use mathlib.Core.Path.{_≡_, refl, ap, _∙_}
 use mathlib.Core.List.{List, [], _∷_, _++_, map}
 use Prim.Native.Nat.{ℕ, suc, _+_, _*_, _≤_}
 use native.Mathlib.Omega.{arith}
 use lib.ListN.{length, length-append}
-use Rattle.number.specs.declared.Num.{Num}
-use Rattle.number.specs.Number.{printed, plain, sixed}
+use Rattle.number.specs.Number.{printed, plain, fixed, width}
 use Rattle.text.specs.Written.{after, spaced, ended, written}
 use Rattle.text.proofs.WrittenLaws.{ended-long, written-append}
-use Rattle.number.proofs.DigitLaws.{plain-short, printed-short}
+use Rattle.number.proofs.DigitLaws.{plain-short, printed-short, length-plain, width-two}
 use Rattle.names.proofs.NameLaws.{name-long}
 use Rattle.text.specs.Reading.{Word, Line}
 use Rattle.layout.specs.Grammar.{beginlayout, roomcount, trackcount, obstaclecount, doorhookcount, donelayout}
-use Rattle.layoutform.specs.Form.{Entry, LayoutParts, entryLine, section, form, formText}
+use Rattle.layoutform.specs.Form.{Entry, LayoutParts, entryLine, section, form, formText, longestForm}
 use Rattle.verdict.proofs.Each.{Each}
 use Rattle.layoutform.proofs.PartLaws.{GoodEntry, GoodParts}
 
@@ -32,21 +31,14 @@ spaced-long w ws = length-append w (after ws)
 pub written-long : (l : Line) (ls : List Line) → length (written (l ∷ ls)) ≡ suc (length (spaced l) + length (written ls))
 written-long l ls = ended-long (spaced l) (map spaced ls)
 
-pub number-short : (x : Num) → length (printed (sixed x)) ≤ 13
-unfolding sixed
-number-short x = printed-short (sixed x) (omega arith)
-
--- a name of at most 16 bytes and three numbers
-pub numbers-short : (w : Word) (x y z : Num) → length w ≤ 16 → length (spaced (w ∷ printed (sixed x) ∷ printed (sixed y) ∷ printed (sixed z) ∷ [])) ≤ 58
-numbers-short w x y z h =
-    let a = printed (sixed x) in
-    let b = printed (sixed y) in
-    let c = printed (sixed z) in
-    omega (arith, spaced-long w (a ∷ b ∷ c ∷ []), after-long a (b ∷ c ∷ []), after-long b (c ∷ []), after-long c [], after-none, number-short x, number-short y, number-short z)
-
-pub entry-short : (e : Entry) → length (e .name) ≤ 16 → length (spaced (entryLine e)) ≤ 58
+-- a name of at most 16 bytes and three numbers of at most six places
+pub entry-short : (e : Entry) → length (e .name) ≤ 16 → e .x .places ≤ 6 → e .y .places ≤ 6 → e .z .places ≤ 6 → length (spaced (entryLine e)) ≤ 58
 unfolding entryLine
-entry-short e h = numbers-short (e .name) (e .x) (e .y) (e .z) h
+entry-short e h p q r =
+    let a = printed (e .x) in
+    let b = printed (e .y) in
+    let c = printed (e .z) in
+    omega (arith, spaced-long (e .name) (a ∷ b ∷ c ∷ []), after-long a (b ∷ c ∷ []), after-long b (c ∷ []), after-long c [], after-none, printed-short (e .x) p, printed-short (e .y) q, printed-short (e .z) r)
 
 entries-short : (es : List Entry) → Each GoodEntry es → length (written (map entryLine es)) ≤ 59 * length es
 unfolding ended
@@ -54,61 +46,48 @@ entries-short [] g = omega arith
 entries-short (e ∷ es) (g, h) =
     let i : length (written (map entryLine es)) ≤ 59 * length es = entries-short es h in
     let a : length (written (entryLine e ∷ map entryLine es)) ≡ suc (length (spaced (entryLine e)) + length (written (map entryLine es))) = written-long (entryLine e) (map entryLine es) in
-    let n : length (spaced (entryLine e)) ≤ 58 = entry-short e (name-long (e .name) (g .name) .1) in
+    let n : length (spaced (entryLine e)) ≤ 58 = entry-short e (name-long (e .name) (g .name) .1) (g .x .few) (g .y .few) (g .z .few) in
     omega arith
 
-pub head-short : (key : Word) (n : ℕ) → length (spaced (key ∷ plain n ∷ [])) ≤ length key + 6
-head-short key n = omega (arith, spaced-long key (plain n ∷ []), after-long (plain n) [], after-none, plain-short n)
+head-long : (key : Word) (n : ℕ) → length (spaced (key ∷ plain n ∷ [])) ≡ length key + 1 + length (plain n)
+head-long key n = omega (arith, spaced-long key (plain n ∷ []), after-long (plain n) [], after-none)
 
-section-short : (key : Word) (es : List Entry) (ls : List Line) → length key ≤ 13 → Each GoodEntry es → length es ≤ 64 → length (written (section key es ++ ls)) ≤ 3796 + length (written ls)
+pub head-short : (key : Word) (n : ℕ) → length (spaced (key ∷ plain n ∷ [])) ≤ length key + 6
+head-short key n = omega (arith, head-long key n, plain-short n)
+
+section-short : (key : Word) (es : List Entry) (ls : List Line) → Each GoodEntry es → length es ≤ 64 → length (written (section key es ++ ls)) ≤ length key + 4 + 64 * 59 + length (written ls)
 unfolding section
-section-short key es ls k g h =
+section-short key es ls g h =
     let a = written-long (key ∷ plain (length es) ∷ []) (map entryLine es ++ ls) in
     let b = ap length (written-append (map entryLine es) ls) ∙ length-append (written (map entryLine es)) (written ls) in
-    omega (arith, a, b, head-short key (length es), entries-short es g)
+    omega (arith, a, b, head-long key (length es), length-plain (length es), width-two (length es) (omega arith), entries-short es g)
 
+-- the lines of keywords alone, and of no door hooks
 first-short : length (spaced (beginlayout ∷ [])) ≡ 11
 unfolding spaced after beginlayout
 first-short = refl
 
-last-short : length (written ((donelayout ∷ []) ∷ [])) ≡ 11
-unfolding ended spaced after donelayout
+last-short : length (written (section doorhookcount [] ++ ((donelayout ∷ []) ∷ []))) ≡ 27
+unfolding section ended spaced after plain fixed width doorhookcount donelayout
 last-short = refl
 
-rooms-key : length roomcount ≤ 13
-unfolding roomcount
-rooms-key = omega arith
+keys-short : length roomcount + (length trackcount + length obstaclecount) ≡ 32
+unfolding roomcount trackcount obstaclecount
+keys-short = refl
 
-tracks-key : length trackcount ≤ 13
-unfolding trackcount
-tracks-key = omega arith
-
-obstacles-key : length obstaclecount ≤ 13
-unfolding obstaclecount
-obstacles-key = omega arith
-
-hooks-key : length doorhookcount ≤ 13
-unfolding doorhookcount
-hooks-key = omega arith
-
--- no door hooks
-hooks-short : length (written (section doorhookcount [] ++ ((donelayout ∷ []) ∷ []))) ≤ 31
-unfolding section
-hooks-short =
-    omega (arith, written-long (doorhookcount ∷ plain 0 ∷ []) ((donelayout ∷ []) ∷ []), head-short doorhookcount 0, hooks-key, last-short)
-
-pub form-short : (p : LayoutParts) → GoodParts p → length (formText p) ≤ 12000
+pub form-short : (p : LayoutParts) → GoodParts p → length (formText p) ≤ longestForm
 unfolding formText form
 form-short p g =
-    let hooks = section doorhookcount [] ++ ((donelayout ∷ []) ∷ []) in
-    let obstacles = section obstaclecount (p .obstacles) ++ hooks in
+    let last = section doorhookcount [] ++ ((donelayout ∷ []) ∷ []) in
+    let obstacles = section obstaclecount (p .obstacles) ++ last in
     let tracks = section trackcount (p .tracks) ++ obstacles in
     omega (
       arith,
       written-long (beginlayout ∷ []) (section roomcount (p .rooms) ++ tracks),
       first-short,
-      section-short roomcount (p .rooms) tracks rooms-key (g .rooms) (g .few-rooms),
-      section-short trackcount (p .tracks) obstacles tracks-key (g .tracks) (g .few-tracks),
-      section-short obstaclecount (p .obstacles) hooks obstacles-key (g .obstacles) (g .few-obstacles),
-      hooks-short,
+      keys-short,
+      section-short roomcount (p .rooms) tracks (g .rooms) (g .few-rooms),
+      section-short trackcount (p .tracks) obstacles (g .tracks) (g .few-tracks),
+      section-short obstaclecount (p .obstacles) last (g .obstacles) (g .few-obstacles),
+      last-short,
     )

@@ -9,10 +9,10 @@ use Rattle.verdict.proofs.Lists.{map-at}
 use Rattle.number.specs.declared.Num.{Num}
 use Rattle.names.specs.Name.{isName}
 use Rattle.letters.specs.Case.{lowered}
-use Rattle.number.specs.Number.{numberOf, printed, sixed, Said}
+use Rattle.number.specs.Number.{numberOf, printed, Said}
 use Rattle.names.proofs.NameLaws.{name-lowered, same-name-lowered, same-name-sym}
 use Rattle.letters.proofs.CaseLaws.{lowered-again}
-use Rattle.number.proofs.NumberTrip.{read-said, sixed-read, sixed-again}
+use Rattle.number.proofs.NumberTrip.{read-said, printed-read}
 use Rattle.number.proofs.DecimalLaws.{decimal-ok, read-decimal}
 use Rattle.text.proofs.WrittenLaws.{AllPlain}
 use Rattle.names.proofs.WordLaws.{name-plain}
@@ -20,7 +20,7 @@ use Rattle.number.proofs.WordLaws.{number-plain}
 use Rattle.text.specs.Reading.{Word, Line, nth}
 use Rattle.layout.specs.Grammar.{Typed, namesOf}
 use Rattle.layout.specs.Layout.{layoutOf}
-use Rattle.layoutform.specs.Form.{Entry, LayoutParts, entryOf, partsOfTyped, partsOf, sixedEntry, entryLine}
+use Rattle.layoutform.specs.Form.{Entry, LayoutParts, entryOf, partsOfTyped, partsOf, entryLine}
 use Rattle.verdict.proofs.Each.{Each, each-map}
 use Rattle.layout.proofs.ApartLaws.{Apart}
 use Rattle.layout.specs.Plain.{IsEntry}
@@ -91,9 +91,8 @@ parts-good s = good-parts (layoutOf s) (layout-good s)
 
 -- ---- an entry's line
 
-number-ok : (x : Num) → Said x → numberOf (printed (sixed x)) .ok ≡ true
-unfolding sixed
-number-ok x s = ap (λ (y : Num). y .ok) (sixed-read x s) ∙ s .right
+number-ok : (x : Num) → Said x → numberOf (printed x) .ok ≡ true
+number-ok x s = ap (λ (y : Num). y .ok) (printed-read x s) ∙ s .right
 
 pub line-good : (e : Entry) → GoodEntry e → IsEntry (entryLine e)
 unfolding entryLine
@@ -102,27 +101,18 @@ line-good e g = record { four = refl; name = g .name; x = read-decimal _ (number
 pub line-plain : (e : Entry) → GoodEntry e → AllPlain (entryLine e)
 unfolding entryLine
 line-plain e g =
-    (name-plain (e .name) (g .name), (number-plain (sixed (e .x)), (number-plain (sixed (e .y)), (number-plain (sixed (e .z)), tt))))
+    (name-plain (e .name) (g .name), (number-plain (e .x), (number-plain (e .y), (number-plain (e .z), tt))))
 
 pub line-names : (es : List Entry) → namesOf (map entryLine es) ≡ partNames es
 unfolding partNames namesOf entryLine
 line-names [] = refl
 line-names (e ∷ es) = ap (λ (l : List Word). e .name ∷ l) (line-names es)
 
--- it is read as the same name, signs and millionths, with six places
-pub line-again : (e : Entry) → GoodEntry e → entryOf (entryLine e) ≡ sixedEntry e
-unfolding entryOf entryLine sixedEntry
-line-again e g = rw (g .small, sixed-read (e .x) (g .x), sixed-read (e .y) (g .y), sixed-read (e .z) (g .z))
+-- it is read as the same entry
+pub line-again : (e : Entry) → GoodEntry e → entryOf (entryLine e) ≡ e
+unfolding entryOf entryLine
+line-again e g = rw (g .small, printed-read (e .x) (g .x), printed-read (e .y) (g .y), printed-read (e .z) (g .z))
 
-pub lines-again : (es : List Entry) → Each GoodEntry es → map entryOf (map entryLine es) ≡ map sixedEntry es
+pub lines-again : (es : List Entry) → Each GoodEntry es → map entryOf (map entryLine es) ≡ es
 lines-again [] g = refl
 lines-again (e ∷ es) (g, h) = rw (line-again e g, lines-again es h)
-
--- and six places are written as they were
-pub line-sixed : (e : Entry) → entryLine (sixedEntry e) ≡ entryLine e
-unfolding entryLine sixedEntry
-line-sixed e = rw (sixed-again (e .x), sixed-again (e .y), sixed-again (e .z))
-
-pub lines-sixed : (es : List Entry) → map entryLine (map sixedEntry es) ≡ map entryLine es
-lines-sixed [] = refl
-lines-sixed (e ∷ es) = rw (line-sixed e, lines-sixed es)

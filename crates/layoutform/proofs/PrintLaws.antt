@@ -15,10 +15,12 @@ use Rattle.verdict.proofs.Lists.{map-at}
 use Rattle.number.specs.declared.Num.{Num}
 use Rattle.text.specs.Scan.{words, lineAt}
 use Rattle.letters.specs.Case.{lowered}
-use Rattle.number.specs.Number.{numberOf, printed, plain, sixed}
+use Rattle.number.specs.Number.{numberOf, printed, plain}
 use Rattle.printer.specs.Write.{Wrote}
 use Rattle.text.specs.Written.{after, spaced, ended, written}
 use Rattle.text.proofs.WrittenLaws.{ended-one, written-append}
+use Rattle.number.proofs.DigitLaws.{printed-short}
+use Rattle.number.proofs.NumberTrip.{number-places}
 use Rattle.names.proofs.NameLaws.{name-long}
 use Rattle.letters.proofs.CaseLaws.{length-lowered}
 use Rattle.printer.proofs.WriteLaws.{wrote-none, wrote-then, wrote-is}
@@ -27,7 +29,7 @@ use Rattle.layoutform.specs.Form.{Entry, entryNamed, entryOf, entryLine,
 use Rattle.layoutform.specs.Rewrite.{renamedAt}
 use Rattle.layout.specs.Starts.{entryAt, held, KeptEntries}
 use Rattle.layout.proofs.HeldLaws.{held-long, held-at}
-use Rattle.layoutform.proofs.LengthLaws.{numbers-short, number-short}
+use Rattle.layoutform.proofs.LengthLaws.{entry-short}
 use Rattle.layoutform.proofs.RenameLaws.{renamed-long, renamed-here, renamed-other}
 
 -- ---- one line's bytes
@@ -46,15 +48,15 @@ entry-bytes w a b c = simp (append-nil, append-assoc)
 
 -- ---- a number
 
-pub six-places : (x y : Num) → y ≡ sixed x → y .places ≤ 6
-unfolding sixed
-six-places x y e = omega (arith, ap (λ (z : Num). z .places) e)
+-- the number of a word has at most six places
+pub few-places : (u : Word) (x : Num) → x ≡ numberOf u → x .places ≤ 6
+few-places u x e = rw e (number-places u)
 
-pub coordinate-wrote : {a b c : List ℕ} {i j k : ℕ} (l : List ℕ) (n : ℕ) (u : Word) (x y : Num) → u ≡ nth (words l) n → x ≡ numberOf u → y ≡ sixed x → Wrote a b i j (32 ∷ []) → Wrote b c j k (printed y) → Wrote a c i k (32 ∷ printed (sixed (numberOf (nth (words l) n))))
-coordinate-wrote l n u x y eu ex ey p q = wrote-is _ (wrote-then p q) (rw (ey, ex, eu))
+pub coordinate-wrote : {a b c : List ℕ} {i j k : ℕ} (l : List ℕ) (n : ℕ) (u : Word) (x : Num) → u ≡ nth (words l) n → x ≡ numberOf u → Wrote a b i j (32 ∷ []) → Wrote b c j k (printed x) → Wrote a c i k (32 ∷ printed (numberOf (nth (words l) n)))
+coordinate-wrote l n u x eu ex p q = wrote-is _ (wrote-then p q) (rw (ex, eu))
 
-pub coordinate-end : {a b : List ℕ} {i j : ℕ} (x : Num) → Wrote a b i j (32 ∷ printed (sixed x)) → j ≤ i + 14
-coordinate-end x w = omega (arith, w .next, number-short x)
+pub coordinate-end : {a b : List ℕ} {i j : ℕ} (w : Word) → Wrote a b i j (32 ∷ printed (numberOf w)) → j ≤ i + 14
+coordinate-end w q = omega (arith, q .next, printed-short (numberOf w) (number-places w))
 
 -- ---- an entry
 
@@ -67,9 +69,8 @@ named-own t name u l e eu w = rw (e, ← eu) w
 pub entry-end : {a b : List ℕ} {i j : ℕ} (w : Word) (l : Line) → length w ≤ 16 → Wrote a b i j (written (entryLine (entryNamed w l) ∷ [])) → j ≤ i + 59
 unfolding entryLine entryNamed
 entry-end w l h q =
-    let line = lowered w ∷ printed (sixed (numberOf (nth l 1))) ∷ printed (sixed (numberOf (nth l 2))) ∷ printed (sixed (numberOf (nth l 3))) ∷ [] in
-    let m : length (spaced line) ≤ 58 = numbers-short (lowered w) (numberOf (nth l 1)) (numberOf (nth l 2)) (numberOf (nth l 3)) (omega (arith, length-lowered w)) in
-    omega (arith, q .next, ended-one (spaced line))
+    let m : length (spaced (entryLine (entryNamed w l))) ≤ 58 = entry-short (entryNamed w l) (omega (arith, length-lowered w)) (number-places (nth l 1)) (number-places (nth l 2)) (number-places (nth l 3)) in
+    omega (arith, q .next, ended-one (spaced (entryLine (entryNamed w l))))
 
 either-short : (t : Bool) (v w : Word) → length v ≤ 16 → length w ≤ 16 → length (cond t v w) ≤ 16
 either-short true v w h k = h

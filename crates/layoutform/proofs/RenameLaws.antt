@@ -23,14 +23,14 @@ use Rattle.names.proofs.NameLaws.{name-lowered, same-name-lowered, same-name-sy
 use Rattle.letters.proofs.CaseLaws.{lowered-again}
 use Rattle.text.specs.Reading.{Word}
 use Rattle.layout.specs.Layout.{layoutVerdict, layoutOf}
-use Rattle.layoutform.specs.Form.{Entry, partsOf, partsOfTyped, sixedParts, formText}
+use Rattle.layoutform.specs.Form.{Entry, partsOf, partsOfTyped, formText}
 use Rattle.layout.specs.Grammar.{knownBut}
 use Rattle.rooms.specs.Rooms.{roomNames, nameVerdict}
 use Rattle.layoutform.specs.Rewrite.{renamedAt, renamed, renameVerdict}
 use Rattle.verdict.proofs.Each.{Each}
 use Rattle.layout.proofs.ApartLaws.{Apart}
 use Rattle.layoutform.proofs.PartLaws.{partNames, GoodEntry, GoodParts, parts-good, names-lowered}
-use Rattle.layoutform.proofs.FormTrip.{good-accepted, good-again, sixed-form}
+use Rattle.layoutform.proofs.FormTrip.{good-accepted, good-again}
 
 -- ---- one name changed
 
@@ -155,10 +155,10 @@ renamed-good s i w n k =
 pub rename-accepted : (s : List ℕ) (i : ℕ) (w : Word) (room : ℕ) → renameVerdict s i w room .number ≡ 0 → layoutVerdict (formText (renamed (partsOf s) i w)) ≡ accepted
 rename-accepted s i w room z = let r = renames s i w room z in good-accepted _ (renamed-good s i w (r .named .name) (r .named .new))
 
--- .. and read as the renamed parts, each number with six places ..
-pub rename-read : (s : List ℕ) (i : ℕ) (w : Word) (room : ℕ) → renameVerdict s i w room .number ≡ 0 → partsOf (formText (renamed (partsOf s) i w)) ≡ sixedParts (renamed (partsOf s) i w)
+-- .. and read as the renamed parts ..
+pub rename-read : (s : List ℕ) (i : ℕ) (w : Word) (room : ℕ) → renameVerdict s i w room .number ≡ 0 → partsOf (formText (renamed (partsOf s) i w)) ≡ renamed (partsOf s) i w
 rename-read s i w room z = let r = renames s i w room z in good-again _ (renamed-good s i w (r .named .name) (r .named .new))
 
 -- .. and rewriting it again changes no byte
 pub rename-twice : (s : List ℕ) (i : ℕ) (w : Word) (room : ℕ) → renameVerdict s i w room .number ≡ 0 → formText (partsOf (formText (renamed (partsOf s) i w))) ≡ formText (renamed (partsOf s) i w)
-rename-twice s i w room z = ap formText (rename-read s i w room z) ∙ sixed-form (renamed (partsOf s) i w)
+rename-twice s i w room z = ap formText (rename-read s i w room z)

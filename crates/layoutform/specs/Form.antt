@@ -1,10 +1,10 @@
 -- A layout's parts, and its fixed form. Definitions only.
-use Prim.Native.Nat.{ℕ}
+use Prim.Native.Nat.{ℕ, _+_, _*_}
 use mathlib.Core.List.{List, [], _∷_, _++_, map}
 use lib.ListN.{length}
 use Rattle.number.specs.declared.Num.{Num}
 use Rattle.letters.specs.Case.{lowered}
-use Rattle.number.specs.Number.{numberOf, printed, plain, sixed}
+use Rattle.number.specs.Number.{numberOf, printed, plain}
 use Rattle.text.specs.Written.{written}
 use Rattle.text.specs.Reading.{Word, Line, nth}
 use Rattle.layout.specs.Grammar.{Typed, beginlayout, roomcount, trackcount, obstaclecount, doorhookcount, donelayout}
@@ -39,17 +39,10 @@ partsOfTyped t = record { rooms = map entryOf (t .rooms); tracks = map entryOf (
 unfoldable pub partsOf : List ℕ → LayoutParts
 partsOf s = partsOfTyped (layoutOf s)
 
--- the same name, signs and millionths, each number with six digits after the point
-unfoldable pub sixedEntry : Entry → Entry
-sixedEntry e = record { name = e .name; x = sixed (e .x); y = sixed (e .y); z = sixed (e .z) }
-
-unfoldable pub sixedParts : LayoutParts → LayoutParts
-sixedParts p = record { rooms = map sixedEntry (p .rooms); tracks = map sixedEntry (p .tracks); obstacles = map sixedEntry (p .obstacles) }
-
--- ---- the fixed form: lower case, all four sections, no needless leading zeros, six digits after the point, LF
+-- ---- the fixed form: lower case, all four sections, no needless leading zeros, as many digits after the point as were typed, LF
 
 unfoldable pub entryLine : Entry → Line
-entryLine e = e .name ∷ printed (sixed (e .x)) ∷ printed (sixed (e .y)) ∷ printed (sixed (e .z)) ∷ []
+entryLine e = e .name ∷ printed (e .x) ∷ printed (e .y) ∷ printed (e .z) ∷ []
 
 -- a keyword with its count, and the entries
 unfoldable pub section : Word → List Entry → List Line
@@ -63,3 +56,7 @@ form p =
 -- its bytes
 unfoldable pub formText : LayoutParts → List ℕ
 formText p = written (form p)
+
+-- no form is longer: 64 entries of 59 bytes in each of three sections, and 83 bytes of keywords and counts
+abbrev pub longestForm : ℕ
+longestForm = 3 * (64 * 59) + 83

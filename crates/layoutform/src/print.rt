@@ -12,23 +12,23 @@ ghost use lib.ListN.{length};
 ghost use Rattle.verdict.specs.Output.{formAnswer, formMemory};
 ghost use Rattle.text.specs.Scan.{words};
 ghost use Rattle.letters.specs.Case.{lowered};
-ghost use Rattle.number.specs.Number.{numberOf, printed, plain, sixed};
+ghost use Rattle.number.specs.Number.{numberOf, printed, plain};
 ghost use Rattle.printer.specs.Write.{Wrote};
 ghost use Rattle.text.specs.Written.{written, rule40};
 ghost use Rattle.text.specs.Reading.{nth};
 ghost use Rattle.layout.specs.Layout.{layoutOf};
 ghost use Rattle.layout.specs.Starts.{held, KeptEntries, Held};
-ghost use Rattle.layoutform.specs.Form.{entryNamed, entryOf, entryLine, section};
+ghost use Rattle.layoutform.specs.Form.{entryNamed, entryOf, entryLine, section, longestForm};
 ghost use Rattle.layoutform.specs.Rewrite.{renamedAt, renamedForm};
 
-// A space, and number k of a line with six digits after the point.
+// A space, and number k of a line.
 pub(crate) fn put_coordinate(out: &mut [u8], at: usize, l: &[u8], k: usize) -> usize
     requires { ⌜ at < 2 ^ 29 ⌝ }
-    ensures { λ r. ⌜ Wrote (now (out .entry)) (now (out .exit)) at r (32 ∷ printed (sixed (numberOf (nth (words (now (l .entry))) k)))) ⌝ }
+    ensures { λ r. ⌜ Wrote (now (out .entry)) (now (out .exit)) at r (32 ∷ printed (numberOf (nth (words (now (l .entry))) k))) ⌝ }
 {
     let x = number::number(word(l, k));
     let e = printer::put_byte(out, at, 32);
-    printer::put_number(out, e, number::with_six(x))
+    printer::put_number(out, e, x)
 }
 
 // An entry's line with a name: the name in lower case, the line's three numbers, LF.
@@ -147,7 +147,7 @@ pub(crate) fn put_form(out: &mut [u8], s: &[u8], r: Layout, i: usize, name: &[u8
 // Rule 40, and the form where it fits. A dry run tells its length.
 pub(crate) fn write_form(out: &mut [u8], s: &[u8], r: Layout, i: usize, name: &[u8]) -> Form
     requires held { ⌜ Held (now s) r (layoutOf (now s)) × (length (now name) ≤ 16) ⌝ }
-    requires short { ⌜ length (renamedForm (now s) i (now name)) ≤ 12000 ⌝ }
+    requires short { ⌜ length (renamedForm (now s) i (now name)) ≤ longestForm ⌝ }
     ensures answer { λ f. ⌜ f ≡ formAnswer (rule40 (renamedForm (now (s .entry)) i (now (name .entry))) (length (now (out .entry)))) (renamedForm (now (s .entry)) i (now (name .entry))) ⌝ }
     ensures memory { λ _. ⌜ now (out .exit) ≡ formMemory (rule40 (renamedForm (now (s .entry)) i (now (name .entry))) (length (now (out .entry)))) (renamedForm (now (s .entry)) i (now (name .entry))) (now (out .entry)) ⌝ }
 {

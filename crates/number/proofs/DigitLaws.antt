@@ -10,7 +10,7 @@ use native.Mathlib.Omega.{arith}
 use lib.Dec.{eqb, leb, ltb}
 use lib.ListN.{length, getD, take, drop, length-drop, length-append}
 use lib.Seq.{take-suc, getD-drop}
-use borrow.Author.Tests.{leb-true, ltb-true}
+use borrow.Author.Tests.{leb-true, ltb-true, ltb-false, lt-ltb}
 use Rattle.number.specs.declared.Num.{Num}
 use Rattle.letters.specs.Class.{classOf, isDigit, within}
 use Rattle.text.specs.Scan.{run}
@@ -134,22 +134,32 @@ unfolding fraction
 fraction-pos zero v h = absurd (h refl)
 fraction-pos (suc p) v h = refl
 
--- a width is 1 to 5, and a number below 100,000 has no more digits than that
+-- a width is 1 to 5, a number below 100,000 has no more digits than that, and no number of several digits has fewer
 pub record Wide (v n : ℕ) : Type 0 where
   pub some : 1 ≤ n
   pub few : n ≤ 5
   pub holds : v < 100000 → v < 10 ^ n
+  pub least : (n ≡ 1 → ⊥) → 10 ^ (n - 1) ≤ v
 
 pub width-is : (v : ℕ) → Wide v (width v)
 unfolding width
 width-is v = go (ltb v 10) (ltb v 100) (ltb v 1000) (ltb v 10000) refl refl refl refl
   where
     go : (a b c d : Bool) → ltb v 10 ≡ a → ltb v 100 ≡ b → ltb v 1000 ≡ c → ltb v 10000 ≡ d → Wide v (cond a 1 (cond b 2 (cond c 3 (cond d 4 5))))
-    go true b c d p q r s = let k = ltb-true v 10 p in record { some = omega arith; few = omega arith; holds = λ _. k }
-    go false true c d p q r s = let k = ltb-true v 100 q in record { some = omega arith; few = omega arith; holds = λ _. k }
-    go false false true d p q r s = let k = ltb-true v 1000 r in record { some = omega arith; few = omega arith; holds = λ _. k }
-    go false false false true p q r s = let k = ltb-true v 10000 s in record { some = omega arith; few = omega arith; holds = λ _. k }
-    go false false false false p q r s = record { some = omega arith; few = omega arith; holds = λ k. k }
+    go true b c d p q r s = let k = ltb-true v 10 p in record { some = omega arith; few = omega arith; holds = λ _. k; least = λ n. absurd (n refl) }
+    go false true c d p q r s = let k = ltb-true v 100 q in record { some = omega arith; few = omega arith; holds = λ _. k; least = λ _. ltb-false v 10 p }
+    go false false true d p q r s = let k = ltb-true v 1000 r in record { some = omega arith; few = omega arith; holds = λ _. k; least = λ _. ltb-false v 100 q }
+    go false false false true p q r s = let k = ltb-true v 10000 s in record { some = omega arith; few = omega arith; holds = λ _. k; least = λ _. ltb-false v 1000 r }
+    go false false false false p q r s = record { some = omega arith; few = omega arith; holds = λ k. k; least = λ _. ltb-false v 10000 s }
+
+-- a number below 100 has at most two digits
+pub width-two : (v : ℕ) → v < 100 → width v ≤ 2
+unfolding width
+width-two v h = rw (lt-ltb v 100 h) (go (ltb v 10))
+  where
+    go : (t : Bool) → cond t 1 2 ≤ 2
+    go true = omega arith
+    go false = omega arith
 
 pub length-sign : (t : Bool) → length (sign t) ≤ 1
 length-sign true = omega arith

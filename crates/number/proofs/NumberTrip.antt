@@ -15,7 +15,7 @@ use Rattle.number.specs.declared.Num.{Num}
 use Rattle.letters.specs.Class.{isDigit}
 use Rattle.text.specs.Scan.{run}
 use Rattle.number.specs.Count.{value}
-use Rattle.number.specs.Number.{count, says, minus, right, some, none, numberOf, fixed, width, plain, pointed, fraction, printed, sixed, sign, Decimal, millionthsOf, Said}
+use Rattle.number.specs.Number.{count, says, minus, right, some, none, numberOf, fixed, width, plain, pointed, fraction, printed, sign, Decimal, millionthsOf, Said}
 use Rattle.text.proofs.RunLaws.{run-nil, run-cons-on, run-all, run-at}
 use Rattle.number.proofs.DigitLaws.{digit-byte, value-snoc, length-fixed, width-is, pow-pos-of, whole-small, fraction-small}
 use Rattle.number.proofs.NumberLaws.{number-by, right-bounds}
@@ -40,7 +40,7 @@ fixed-value (suc k) v h =
     value-snoc 0 (fixed k (v / 10)) (48 + v % 10) ∙ omega arith
 
 -- the digits behind the point, as a number
-abbrev part : ℕ → ℕ → ℕ
+abbrev pub part : ℕ → ℕ → ℕ
 part v p = v % 1000000 / 10 ^ (6 - p)
 
 part-small : (v p : ℕ) → p ≤ 6 → part v p < 10 ^ p
@@ -86,7 +86,7 @@ printed-means v p small few even =
     rw (length-fixed p (part v p), fixed-value (width (v / 1000000)) (v / 1000000) (width-is (v / 1000000) .holds (omega arith)), fixed-value p (part v p) (part-small v p few), part-back v p even)
     (omega arith)
 
-signed : (n : Bool) (v : ℕ) → (n ≡ true → v ≡ 0 → ⊥) → (not (eqb v 0) && n) ≡ n
+pub signed : (n : Bool) (v : ℕ) → (n ≡ true → v ≡ 0 → ⊥) → (not (eqb v 0) && n) ≡ n
 signed true v h = rw (ne-eqb v 0 (h refl))
 signed false v h = and-false (not (eqb v 0))
 
@@ -132,16 +132,3 @@ read-said w k = read-by w (minus w) _ _ _ refl refl refl refl k
 -- a number that was read has at most six places, and no number has none
 pub number-places : (w : List ℕ) → numberOf w .places ≤ 6
 number-places w = test (numberOf w .ok) (λ e. read-said w e .few) (λ e. rw (not-number w e) (unfold none in (omega arith)))
-
--- six places lose nothing
-pub sixed-said : (x : Num) → Said x → Said (sixed x)
-unfolding sixed
-sixed-said x s = record { right = s .right; small = s .small; few = omega arith; even = omega arith; sign = s .sign }
-
--- so a number printed with six places is read as the same number, with six places
-pub sixed-read : (x : Num) → Said x → numberOf (printed (sixed x)) ≡ sixed x
-sixed-read x s = printed-read (sixed x) (sixed-said x s)
-
-pub sixed-again : (x : Num) → sixed (sixed x) ≡ sixed x
-unfolding sixed
-sixed-again x = refl

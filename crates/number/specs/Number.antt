@@ -38,6 +38,10 @@ pub record Decimal (w : List ℕ) : Type 0 where
 unfoldable pub millionthsOf : List ℕ → List ℕ → ℕ
 millionthsOf ds fs = value 0 ds * 1000000 + value 0 fs * 10 ^ (6 - length fs)
 
+-- one digit alone, or another than 0 in front
+abbrev pub NoNeedlessZero : List ℕ → Type 0
+NoNeedlessZero ds = (length ds ≡ 1 → ⊥) → getD ds 0 0 ≡ 48 → ⊥
+
 -- ---- as it is read
 
 -- 1 if the word starts with a minus, else 0
@@ -97,10 +101,6 @@ fraction (suc p) v = 46 ∷ fixed (suc p) (v % 1000000 / 10 ^ (6 - suc p))
 -- the number as it is printed
 unfoldable pub printed : Num → List ℕ
 printed x = sign (x .neg) ++ (plain (x .millionths / 1000000) ++ fraction (x .places) (x .millionths))
-
--- the same number with six digits after the point: the fixed form's
-unfoldable pub sixed : Num → Num
-sixed x = record { ok = x .ok; neg = x .neg; millionths = x .millionths; places = 6 }
 
 -- what a word can say: fewer than ten to the eleventh millionths, no digit lost behind the places, and no minus zero
 pub record Said (x : Num) : Type 0 where

@@ -6,7 +6,7 @@ ghost use mathlib.Core.Bool.{true};
 ghost use Prim.Native.Nat.{_+_, _-_, _*_, _^_, _<_, _≤_};
 ghost use lib.ListN.{length};
 ghost use Rattle.number.specs.Count.{value, isCount};
-ghost use Rattle.number.specs.Number.{numberOf, count, says, some, none, minus, right, sixed};
+ghost use Rattle.number.specs.Number.{numberOf, count, says, some, none, minus, right};
 
 // A number: sign and magnitude in whole millionths, and how many digits stood after the point.
 pub struct Num {
@@ -165,17 +165,5 @@ pub fn number(w: &[u8]) -> Num
         kept(a == 1, joined(w, a, n, e, m), m)
     } else {
         no_number()
-    }
-}
-
-// The same number with six digits after the point.
-pub fn with_six(x: Num) -> Num
-    ensures { λ r. ⌜ r ≡ sixed x ⌝ }
-{
-    Num {
-        ok: x.ok,
-        neg: x.neg,
-        millionths: x.millionths,
-        places: 6,
     }
 }

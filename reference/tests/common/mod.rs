@@ -1,9 +1,10 @@
-//! Small floors and texts made by hand, and short names for calls with enough work memory.
+//! Small floors and texts made by hand, short names for calls with enough work memory, and what both sides break alike.
 #![allow(dead_code)] // each test program uses some of these
 
 use reference::answer::{Floor, Form, Point, Session};
-use reference::calls::REFERENCE;
-use reference::compare::Side;
+use reference::calls::{Calls, REFERENCE};
+use reference::compare::{compare, Side};
+use reference::fault::Fault;
 use reference::floor;
 use reference::generate::model::Model;
 use reference::{form, layout, query, sight};
@@ -15,6 +16,31 @@ pub const HONEST: Side = Side {
     calls: REFERENCE,
     fault: None,
 };
+
+/// What is found wrong in so many cases if both sides are this one: sentences alone, for they do not differ.
+pub fn broken_by_both(cases: u64, calls: Calls, fault: Option<Fault>) -> Vec<String> {
+    let side = Side { calls, fault };
+    let mut all = Vec::new();
+    compare(
+        cases,
+        3,
+        [&side, &side],
+        |_| (),
+        |_, found| all.extend(found),
+    );
+    for words in &all {
+        assert!(words.starts_with("reference breaks: "), "{words}");
+    }
+    all
+}
+
+/// Checks that each of these sentences is among what was found.
+pub fn are_noticed(found: &[String], sentences: &[&str]) {
+    for sentence in sentences {
+        let noticed = found.iter().any(|words| words.contains(sentence));
+        assert!(noticed, "not noticed: {sentence}");
+    }
+}
 
 fn bits(numbers: [f32; 3]) -> [u32; 3] {
     numbers.map(f32::to_bits)
