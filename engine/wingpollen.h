@@ -153,7 +153,10 @@ wp_session wp_put_back(uint8_t *floor, size_t floor_length, uint8_t *journal, si
                        uint32_t f, uint32_t bench);
 
 /* Layout texts (LYT) in their fixed form, as they are or with one room renamed: names in lower case, and every number
-   with the digits typed after its point. */
+   with the digits typed after its point. Door hooks are kept: a room of the layout, a door, seven numbers or twelve. At
+   most 64 hooks, no door twice in any letters (37, by the line), and a room that the layout has (39); a door may have a
+   room's name. Renaming a room renames it in its hooks too, and nothing else; a name that only doors have is free. No
+   layout's form is longer than 24,340 bytes. */
 wp_form wp_layout_rewrite(const uint8_t *text, size_t text_length, uint8_t *out, size_t out_length);
 wp_form wp_layout_rename(const uint8_t *text, size_t text_length, uint32_t room,
                          const uint8_t *name, size_t name_length, uint8_t *out, size_t out_length);

@@ -176,8 +176,8 @@ constexpr std::string_view words(Refusal refusal) noexcept {
 
 // What the place beside a refusal counts, or nothing where the place says nothing. What only undo and put-back are
 // refused by, and a bench that is none, have the records kept. 28 has the place that an edit was asked for, and the
-// records else: it is simply "place". Lines count from 1; line 0 is the name that was typed for a room. A text that
-// ends early has the number of its lines, which may be 0.
+// records else: it is simply "place". Lines count from 1; line 0 is the name that was typed for a room. A name that is
+// taken is, by its line, that of a room or of a door. A text that ends early has the number of its lines, which may be 0.
 constexpr std::string_view place_words(Refusal refusal) noexcept {
     switch (refusal) {
         case Refusal::world_coords:
@@ -330,12 +330,14 @@ inline MendedFloor mend(Bytes floor) {
     return mended;
 }
 
+// Rooms, tracks, obstacles and door hooks, as wingpollen.h has them.
 inline TextForm layout_rewrite(std::string_view layout) {
     return inside::text_form([&](std::uint8_t* out, std::size_t length) {
         return wp_layout_rewrite(inside::to_read(layout), layout.size(), out, length);
     });
 }
 
+// The room has the name in its hooks too; doors keep theirs.
 inline TextForm layout_rename(std::string_view layout, std::uint32_t room, std::string_view name) {
     return inside::text_form([&](std::uint8_t* out, std::size_t length) {
         return wp_layout_rename(inside::to_read(layout), layout.size(), room, inside::to_read(name),

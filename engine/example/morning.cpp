@@ -19,7 +19,7 @@
 //     house FILE            the house's layout, for captions and the link check
 //     plan FILE             the visitor's layout        sight FILE   what its rooms see
 //     show                  both of them in fixed form
-//     rename ROOM NAME      a room of the visitor's layout and sight is named anew
+//     rename ROOM NAME      a room of the visitor's layout, of its door hooks and of its sight is named anew
 //     caption ROOM   row ROOM   linkcheck
 //     powercut PART BYTE VALUE  all is broken off, a byte of the saved floor or journal turns into VALUE, and all
 //                               goes on from what was saved: who sat at a bench sits there again

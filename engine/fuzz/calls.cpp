@@ -1,9 +1,9 @@
 // calls.cpp: the fuzz target over the exported calls. An input is a head of 28 bytes that chooses the call, how its
 // slices lie and what its numbers are, and then the slices' bytes (seeds.py writes such inputs). After each call the
 // answer and all lent memory are held to what documents 01 and 02 say without a second implementation at hand: refusals
-// change nothing, work memory comes back cleared, forms read back, a mended floor is accepted and stays as it is, edits
-// are undone to the byte, an undo closes up the journal and a put-back is undo after undo, and the order of two edits
-// counts no more than M-107 lets it.
+// change nothing, work memory comes back cleared, forms read back, a room renamed back leaves the layout as it was, a
+// mended floor is accepted and stays as it is, edits are undone to the byte, an undo closes up the journal and a put-back
+// is undo after undo, and the order of two edits counts no more than M-107 lets it.
 #include "mending.hpp"
 #include "sessions.hpp"
 
@@ -163,10 +163,29 @@ struct Game : Sessions {
     static std::string_view view(const Slot& slot) { return {reinterpret_cast<const char*>(slot.data), slot.length}; }
     std::string_view form(const wp_form& answer) const { return view(out).substr(0, answer.length); }
 
+    // How many words the entries and hooks of a layout have: those of lines with more than a keyword and a count.
+    static std::size_t entry_words(std::string_view text) {
+        const auto parts = [](char byte) { return byte == ' ' || byte == '\t' || byte == '\r' || byte == '\n'; };
+        std::size_t all = 0, of_line = 0;
+        for (std::size_t i = 0; i < text.size(); ++i) {
+            if (!parts(text[i]) && (i == 0 || parts(text[i - 1]))) ++of_line;
+            if (text[i] != '\n' && i + 1 < text.size()) continue;
+            if (of_line > 2) all += of_line;
+            of_line = 0;
+        }
+        return all;
+    }
+
+    // What holds of a layout's form: it is its own form, and no entry, hook or number of either is lost or added.
+    void layout_formed(const wp_form& answer) const {
+        require(layout_rewrite(form(answer)).text == form(answer), "not a fixed form");
+        require(entry_words(form(answer)) == entry_words(view(first)), "a word of an entry or hook is lost or added");
+    }
+
     void layout_written() const {
         const wp_form answer = wp_layout_rewrite(first.data, first.length, out.data, out.length);
         formed(answer, 31);
-        if (answer.number == 0) require(layout_rewrite(form(answer)).text == form(answer), "not a fixed form");
+        if (answer.number == 0) layout_formed(answer);
     }
 
     void layout_renamed() const {
@@ -174,8 +193,12 @@ struct Game : Sessions {
             wp_layout_rename(first.data, first.length, a, third.data, third.length, out.data, out.length);
         formed(answer, 21);
         if (answer.number != 0) return;
-        require(layout_rewrite(form(answer)).text == form(answer), "not a fixed form");
+        layout_formed(answer);
         require(caption(form(answer), {}, a).name.size() == third.length, "the room does not have the name");
+        // Renamed back, the room and its hooks are what they were; a door or another room would not come back.
+        const TextForm before = layout_rewrite(view(first));
+        const TextForm back = layout_rename(form(answer), a, caption(before.text, {}, a).name);
+        require(back.answer.number == 0 && back.text == before.text, "renamed back, it is another layout");
     }
 
     void sight_written() const {
@@ -213,7 +236,7 @@ struct Game : Sessions {
         const wp_answer answer =
             wp_link_check(first.data, first.length, work.data, work.length, second.data, second.length);
         judge(answer, answer.place, 31, 42);
-        require(answer.number < 39 || answer.number == 42, "a number that no layout has");
+        require(answer.number <= 39 || answer.number == 42, "a number that no layout has");
         cleared(answer.number);
         end({&first, &second, &third, &out});
         const wp_floor floor = accepts(first.before);

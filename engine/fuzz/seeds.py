@@ -1,6 +1,6 @@
 #!/usr/bin/env python3
 """Writes the fuzz target's first inputs: seeds.py FOLDER. Each is a head of 28 bytes and then the slices, as calls.cpp reads
-them: the sample floors under every call over a floor, floors with split seams, small journals of two benches, pairs of edits, and texts that read and texts that do not."""
+them: the sample floors under every call over a floor, floors with split seams, small journals of two benches, pairs of edits, and texts that read and texts that do not, with door hooks and without."""
 import importlib.util, pathlib, struct, sys
 
 READ, REWRITE, QUERY, PAINT, LINK, NUDGE, UNDO, PUT_BACK, LAYOUT, LAYOUT_NAME, SIGHT, SIGHT_NAME, ROW, CHECK, CAPTION, MEND = range(16)
@@ -39,6 +39,26 @@ LAYOUTS = [
     b"beginlayout\nroomcount 65\ndonelayout\n",
     b"beginlayout\nroomcount 1\n",
     b"",
+]
+ROOMS = b"beginlayout\nroomcount 2\nHall 1.5 0 -0\nKitchen 00012.25 -7.000001 3\n"
+HOOK, FIVE = b" 1 -2.50 0 1 0 0 -0", b" 0 1 2 3 007.10"
+
+
+def hooked(*hooks, count=None):
+    """A layout with these door hooks, or with another count of them."""
+    return ROOMS + b"doorhookcount %d\n" % (len(hooks) if count is None else count) + b"".join(hook + b"\n" for hook in hooks) + b"donelayout\n"
+
+
+HOOKED = [
+    hooked(b"HALL Front" + HOOK, b"kitchen Larder" + HOOK + FIVE, b"Kitchen hall" + HOOK),
+    hooked(b"kitchen new_name" + HOOK + FIVE, b"Kitchen Kitchen" + HOOK),
+    hooked(*(b"%s door_%d" % ((b"hall", b"KITCHEN")[i % 2], i) + HOOK + FIVE * (i % 3 == 0) for i in range(64))),
+    hooked(*(b"hall d%d" % i + HOOK for i in range(65))),
+    hooked(b"hall a" + HOOK, b"hall A" + HOOK), hooked(b"hall a" + HOOK, b"hall A 1." + HOOK[2:]),
+    hooked(b"cellar a" + HOOK), hooked(b"cellar a.b" + HOOK), hooked(b"ha.l a" + HOOK), hooked(b"hall a.b" + HOOK), hooked(b"hall a" + HOOK + b"."),
+    hooked(b"hall a" + HOOK[2:]), hooked(b"hall a" + HOOK + b" 0"), hooked(b"hall a" + HOOK + FIVE[2:]), hooked(b"hall a" + HOOK + FIVE + b" 0"),
+    hooked(b"hall a" + HOOK, count=2), hooked(b"hall a" + HOOK, count=0), hooked(b"hall a" + HOOK, b"hall b" + HOOK, count=3)[:-12],
+    b"beginlayout\nroomcount 0\ndoorhookcount 1\nhall a" + HOOK + b"\ndonelayout\n",
 ]
 SIGHTS = [b"hall 1\n  Kitchen\nkitchen 2\n  hall\n  kitchen\n", b"HALL 0\n", b"", b"hall 1\n  garden\n", b"hall 2\n hall\n hall\n", b"hall 1\n", b"hall"]
 
@@ -173,6 +193,15 @@ def cases():
         yield case(MEND, data, bytes(400), out=440)
         yield case(MEND, data, bytes(400), out=464, work=65535)
         yield case(READ, data)
+    for text in HOOKED:
+        yield case(LAYOUT, text, out=8192)
+        for room, name in ((0, b"New_Name"), (1, b"New_Name"), (1, b"hall"), (1, b"LARDER"), (0, b"HALL")):
+            yield case(LAYOUT_NAME, text, third=name, a=room, out=8192)
+        yield case(CAPTION, text, LAYOUTS[0], a=1)
+        yield case(SIGHT, SIGHTS[0], text)
+        yield case(SIGHT_NAME, SIGHTS[0], text, b"Front", a=0)
+        yield case(ROW, SIGHTS[0], text, a=1)
+        yield case(CHECK, floors["linked"], text)
     for text in LAYOUTS:
         yield case(LAYOUT, text)
         yield case(LAYOUT, text, lie=0b0110110)

@@ -1,11 +1,12 @@
 //! Runs cases on two sides and compares every answer and every byte of every lent slice. Each side is also
-//! held to what M-104 says of rewritten layouts, M-107 of the order of two edits, M-108 of runs of two benches
-//! and M-109 of mended floors.
+//! held to what M-100 says of door hooks, M-104 of rewritten layouts, M-107 of the order of two edits, M-108 of runs
+//! of two benches and M-109 of mended floors.
 
 use crate::answer::Fields;
 use crate::benches;
 use crate::calls::Calls;
 use crate::digits;
+use crate::doors;
 use crate::fault::{self, Fault};
 use crate::generate::cases::{case, Call, Case, Lent};
 use crate::generate::seams::{enough, Mending};
@@ -262,7 +263,7 @@ fn broken(case: &Case, all: &[Done]) -> Vec<String> {
     let mut found = match case {
         Case::Pair(pair) => order::broken(pair, all),
         Case::Mending(mending) => seams::broken(mending, all),
-        Case::One { .. } => digits::broken(all),
+        Case::One { .. } => [digits::broken(all), doors::broken(all)].concat(),
         Case::Session(_) => Vec::new(),
     };
     for (play, of_play) in played(&case.plays(), all) {

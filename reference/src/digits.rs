@@ -4,15 +4,16 @@
 
 use crate::compare::Done;
 use crate::generate::cases::Call;
-use crate::layout::{self, Entry};
-use crate::number::{Number, MOST_AFTER, MOST_BEFORE};
-use crate::text::Lines;
+use crate::hooks;
+use crate::layout::{self, Layout};
+use crate::number::{MOST_AFTER, MOST_BEFORE};
+use crate::text::{Line, Lines};
 use std::collections::BTreeMap;
 
 pub const AS_TYPED: &str =
     "a number is written as typed, but for needless zeros in front and the minus of zero";
 pub const SAME_PARTS: &str =
-    "what is written has the same parts as the text, but for the name of a renamed room";
+    "what is written has the same parts as the text, but for the name of a renamed room, there and in its hooks";
 pub const TWICE: &str = "a second rewriting changes no byte";
 
 /// The bytes that a layout's rewriting or renaming says it wrote; nothing of other calls and of refused ones.
@@ -46,19 +47,27 @@ pub fn broken(all: &[Done]) -> Vec<String> {
     broken.map(|(sentence, _)| sentence.to_string()).collect()
 }
 
-/// The words behind the names of a layout's entries, the only lines of four words.
+/// The words behind the names of a layout's entries, the only lines of four words, and behind room and door of its hooks.
 fn numbers(text: &[u8]) -> Vec<Vec<u8>> {
     let Ok(mut lines) = Lines::of(text) else {
         return Vec::new();
     };
     let mut numbers = Vec::new();
     while let Some(line) = lines.another() {
-        if let [_, behind @ ..] = &line.words[..] {
-            let is_entry = behind.len() == 3;
-            numbers.extend(behind.iter().filter(|_| is_entry).map(|w| w.bytes.to_vec()));
-        }
+        numbers.extend(numbers_on(&line));
     }
     numbers
+}
+
+/// The numbers of an entry or hook; nothing of other lines.
+pub fn numbers_on(line: &Line) -> Vec<Vec<u8>> {
+    let names = match line.words.len() {
+        4 => 1,
+        count if hooks::WORDS.contains(&count) => 2,
+        count => count,
+    };
+    let behind = line.words[names..].iter();
+    behind.map(|word| word.bytes.to_vec()).collect()
 }
 
 /// A number's word without needless zeros in front, and without a minus where no digit is another than 0.
@@ -74,7 +83,8 @@ pub fn kept(word: &[u8]) -> Vec<u8> {
     [minus, &digits[needless.min(before.saturating_sub(1))..]].concat()
 }
 
-/// Whether both texts have the same entries with the same numbers, and the same names but that of a renamed room.
+/// Whether both texts have the same entries and hooks with the same numbers, and the same names but that of a renamed
+/// room.
 fn has_same_parts(call: Call, text: &[u8], form: &[u8]) -> bool {
     let (Ok(mut of_text), Ok(mut of_form)) = (layout::read(text), layout::read(form)) else {
         return false;
@@ -84,16 +94,23 @@ fn has_same_parts(call: Call, text: &[u8], form: &[u8]) -> bool {
             let Some(renamed) = layout.rooms.get_mut(room as usize) else {
                 return false;
             };
-            renamed.name.clear();
+            let name = std::mem::take(&mut renamed.name);
+            let hooks = layout.hooks.iter_mut();
+            hooks
+                .filter(|hook| hook.room == name)
+                .for_each(|hook| hook.room.clear());
         }
     }
-    let parts = |entries: &[Entry]| -> Vec<(Vec<u8>, [Number; 3])> {
-        let part = |entry: &Entry| (entry.name.clone(), entry.numbers);
-        entries.iter().map(part).collect()
-    };
-    let [one, other] = [of_text, of_form]
-        .map(|layout| [&layout.rooms, &layout.tracks, &layout.obstacles].map(|kind| parts(kind)));
-    one == other
+    parts(of_text) == parts(of_form)
+}
+
+/// A layout's parts: all that was read, but not where the names stand.
+pub fn parts(mut layout: Layout) -> Layout {
+    let kinds = [&mut layout.rooms, &mut layout.tracks, &mut layout.obstacles];
+    for entry in kinds.into_iter().flatten() {
+        (entry.start, entry.length) = (0, 0);
+    }
+    layout
 }
 
 /// How a number is typed: with a minus or not, digits before and after the point, and whether all are zeros.

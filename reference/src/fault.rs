@@ -84,10 +84,36 @@ pub enum Fault {
     BarePoint,
     /// Minus zero that keeps its minus where digits stand after the point.
     MinusZeroTyped,
+    /// A layout with hooks refused, as before M-100.
+    NoHooks,
+    /// Hooks of any number of words from 9 to 14.
+    AnyWords,
+    /// A hook in a room that the layout does not have.
+    HookAnywhere,
+    /// A hook's room that must be typed in lower case.
+    HookRoomCase,
+    /// A door's 34 that is given before the room's 39.
+    DoorBeforeRoom,
+    /// A hook's 35 that is given before the door's 37.
+    NumberBeforeDoor,
+    /// Doors that differ in letter case taken for different doors, and written as typed.
+    DoorAsTyped,
+    /// A door that may not have a room's name.
+    DoorOrRoom,
+    /// The five more numbers of a hook lost.
+    FiveDropped,
+    /// A rename that leaves the hooks as they are.
+    HooksLeft,
+    /// A rename that changes the first of a room's hooks only.
+    OneHookRenamed,
+    /// A rename that changes a door of the room's name too.
+    DoorRenamed,
+    /// A rename refused because a door has the name.
+    RenameAsksDoors,
 }
 
 /// All faults with the names by which they are asked for.
-pub const FAULTS: [(&str, Fault); 39] = [
+pub const FAULTS: [(&str, Fault); 52] = [
     ("minus-zero", Fault::MinusZero),
     ("children-from-one", Fault::ChildrenFromOne),
     ("depth-65", Fault::DepthSixtyFive),
@@ -127,6 +153,19 @@ pub const FAULTS: [(&str, Fault); 39] = [
     ("zeros-dropped", Fault::ZerosDropped),
     ("bare-point", Fault::BarePoint),
     ("minus-zero-typed", Fault::MinusZeroTyped),
+    ("no-hooks", Fault::NoHooks),
+    ("any-words", Fault::AnyWords),
+    ("hook-anywhere", Fault::HookAnywhere),
+    ("hook-room-case", Fault::HookRoomCase),
+    ("door-before-room", Fault::DoorBeforeRoom),
+    ("number-before-door", Fault::NumberBeforeDoor),
+    ("door-as-typed", Fault::DoorAsTyped),
+    ("door-or-room", Fault::DoorOrRoom),
+    ("five-dropped", Fault::FiveDropped),
+    ("hooks-left", Fault::HooksLeft),
+    ("one-hook-renamed", Fault::OneHookRenamed),
+    ("door-renamed", Fault::DoorRenamed),
+    ("rename-asks-doors", Fault::RenameAsksDoors),
 ];
 
 thread_local! {

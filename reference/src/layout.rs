@@ -1,7 +1,9 @@
-//! Layout text (LYT): reading, the fixed form and renaming a room.
+//! Layout text (LYT): reading, the fixed form and renaming a room. Door hooks have a file of their own.
 
 use crate::answer::{refuse, refuse_if, Checked, Form};
+use crate::fault::{planted, Fault};
 use crate::form;
+use crate::hooks::{self, Hook};
 use crate::number::Number;
 use crate::text::{self, count_on, is_name, lower, Line, Lines};
 
@@ -20,6 +22,7 @@ pub struct Layout {
     pub rooms: Vec<Entry>,
     pub tracks: Vec<Entry>,
     pub obstacles: Vec<Entry>,
+    pub hooks: Vec<Hook>,
 }
 
 impl Layout {
@@ -30,7 +33,7 @@ impl Layout {
     }
 }
 
-/// Rules 31 to 38. Lines are judged in order, so the first one refused is the lowest faulty one.
+/// Rules 31 to 39. Lines are judged in order, so the first one refused is the lowest faulty one.
 pub fn read(text: &[u8]) -> Checked<Layout> {
     let mut lines = Lines::of(text)?;
     let mut layout = Layout::default();
@@ -48,7 +51,7 @@ pub fn read(text: &[u8]) -> Checked<Layout> {
         line = lines.wanted()?;
     }
     if starts_with(&line, "doorhookcount") {
-        refuse_if(count_on(&line)? != 0, 36, line.number)?;
+        layout.hooks = hooks::read(&mut lines, &line, &layout)?;
         line = lines.wanted()?;
     }
     keyword_alone(&line, "donelayout")?;
@@ -107,7 +110,7 @@ pub fn fixed(layout: &Layout) -> Vec<u8> {
     section(&mut form, "roomcount", &layout.rooms);
     section(&mut form, "trackcount", &layout.tracks);
     section(&mut form, "obstaclecount", &layout.obstacles);
-    section(&mut form, "doorhookcount", &[]);
+    hooks::write(&mut form, &layout.hooks);
     form.extend_from_slice(b"donelayout\n");
     form
 }
@@ -124,15 +127,19 @@ fn section(form: &mut Vec<u8>, keyword: &str, entries: &[Entry]) {
     }
 }
 
-/// The layout with room `room` named as typed: 21 (place the number), 34, 37 (place 0).
-/// The fixed form is in lower case, so the typed name is taken in lower case too.
+/// The layout with room `room` named as typed, there and in its hooks: 21 (place the number), 34, 37 (place 0).
+/// 37 looks at rooms only. The fixed form is in lower case, so the typed name is taken in lower case too.
 pub fn renamed(mut layout: Layout, room: u32, typed: &[u8]) -> Checked<Layout> {
     let number = room as usize;
     refuse_if(number >= layout.rooms.len(), 21, number)?;
     refuse_if(!is_name(typed), 34, 0)?;
     let holder = layout.room_named(typed);
     refuse_if(holder.is_some_and(|other| other != number), 37, 0)?;
-    layout.rooms[number].name = lower(typed);
+    let new = lower(typed);
+    let is_door = layout.hooks.iter().any(|hook| hook.door == new);
+    refuse_if(is_door && planted(Fault::RenameAsksDoors), 37, 0)?;
+    let old = std::mem::replace(&mut layout.rooms[number].name, new.clone());
+    hooks::rename(&mut layout.hooks, &old, &new);
     Ok(layout)
 }
 

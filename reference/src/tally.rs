@@ -4,6 +4,7 @@
 use crate::benches;
 use crate::compare::{played, Done};
 use crate::digits;
+use crate::doors;
 use crate::floor::tables::{Table, FIELDS, ROOT_FIELD};
 use crate::generate::cases::Case;
 use crate::generate::damage::LARGE;
@@ -38,6 +39,8 @@ pub struct Tally {
     pub seams: seams::Counts,
     /// How numbers were typed in layouts that were rewritten.
     pub digits: digits::Counts,
+    /// What layouts with door hooks were like.
+    pub doors: doors::Counts,
     pub cases: u64,
     pub different: u64,
 }
@@ -49,7 +52,10 @@ impl Tally {
         match case {
             Case::Pair(pair) => self.pairs.add(pair, all),
             Case::Mending(mending) => self.seams.add(mending, all),
-            Case::One { .. } => self.digits.add(all),
+            Case::One { .. } => {
+                self.digits.add(all);
+                self.doors.add(all);
+            }
             Case::Session(_) => (),
         }
         for (play, of_play) in played(&case.plays(), all) {
@@ -113,8 +119,8 @@ impl Tally {
             .unwrap_or(0)
     }
 
-    /// Both tables, the roots, the large floors, the pairs of edits, the two benches, the mended floors, the numbers typed
-    /// and the last line.
+    /// Both tables, the roots, the large floors, the pairs of edits, the two benches, the mended floors, the numbers typed,
+    /// the door hooks and the last line.
     pub fn print(&self) {
         println!("{:<16}{:>9}", "call", "calls");
         for (call, count) in &self.calls {
@@ -144,6 +150,7 @@ impl Tally {
         println!("{}", self.benches.line());
         println!("{}", self.seams.line());
         println!("{}", self.digits.line());
+        println!("{}", self.doors.line());
         println!("{} cases, {} differences", self.cases, self.different);
     }
 }

@@ -69,7 +69,7 @@ fn every_shape_is_written_as_typed_and_read_back() {
 }
 
 #[test]
-fn the_longest_form_has_11411_bytes() {
+fn the_longest_form_has_24340_bytes() {
     let mut text = String::from("beginlayout\n");
     for keyword in ["roomcount", "trackcount", "obstaclecount"] {
         text.push_str(&format!("{keyword} 64\n"));
@@ -79,10 +79,19 @@ fn the_longest_form_has_11411_bytes() {
             text.push('\n');
         }
     }
-    text.push_str("doorhookcount 0\ndonelayout\n");
-    assert_eq!(text.len(), 11_411);
+    text.push_str("doorhookcount 64\n");
+    for hook in 0..64 {
+        text.push_str(&format!(
+            "a_long_name_of{:02} a_long_door_of{hook:02}",
+            63 - hook
+        ));
+        text.push_str(&" -99999.999999".repeat(12));
+        text.push('\n');
+    }
+    text.push_str("donelayout\n");
+    assert_eq!(text.len(), 24_340);
     let (answer, form) = layout_form(&text);
-    assert_eq!((answer.number, answer.length), (0, 11_411));
+    assert_eq!((answer.number, answer.length), (0, 24_340));
     assert_eq!(form, text.as_bytes());
 }
 

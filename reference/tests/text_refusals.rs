@@ -111,10 +111,9 @@ fn refusal_36_counts() {
         let text = format!("beginlayout\nroomcount {count}\n");
         assert_eq!(layout_verdict(&text), (36, 2), "{count}");
     }
-    assert_eq!(
-        layout_verdict("beginlayout\nroomcount 0\ndoorhookcount 1\n"),
-        (36, 3)
-    );
+    let hooks = |count| format!("beginlayout\nroomcount 0\ndoorhookcount {count}\ndonelayout\n");
+    assert_eq!(layout_verdict(&hooks("65")), (36, 3));
+    assert_eq!(layout_verdict(&hooks("1")), (33, 4)); // hooks.rs has more of them
     assert_eq!(
         layout_verdict("beginlayout\nroomcount 00\ndoorhookcount 00\ndonelayout"),
         (0, 0)

@@ -33,7 +33,7 @@ pub room-has-name : (s : List ℕ) (i : ℕ) → hasRoom s i ≡ true → isName
 unfolding hasRoom roomName roomNames
 room-has-name s i h =
     let l : i < length (layoutOf s .rooms) = omega (arith, ltb-true i (length (namesOf (layoutOf s .rooms))) h, length-names (layoutOf s .rooms)) in
-    rw (names-at (layoutOf s .rooms) i l) (each-at IsEntry [] (layoutOf s .rooms) (layout-good s .rooms) i l .name)
+    rw (names-at (layoutOf s .rooms) i l) (each-at (IsEntry 2 (layoutOf s .rooms)) [] (layoutOf s .rooms) (layout-good s .rooms) i l .name)
 
 -- where the number is 0, the caption is the typed name of room i in one of the two texts: the visitor's if it has room i
 pub caption-is : (v h : List ℕ) (i : ℕ) → captionNumber v h i ≡ 0 → ((hasRoom v i ≡ true) × (captionOf v h i ≡ roomName v i)) ⊎ ((hasRoom v i ≡ false) × ((hasRoom h i ≡ true) × (captionOf v h i ≡ roomName h i)))

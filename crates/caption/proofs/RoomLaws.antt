@@ -22,7 +22,8 @@ use Rattle.text.proofs.ReadingLaws.{read-next, read-stop, read-end}
 use Rattle.layout.specs.Grammar.{Typed, State, namesOf, withEntry, opens, wordsOf, openFault, fault, next, finish, layoutGrammar, readFrom}
 use Rattle.caption.specs.Caption.{entersAs}
 use Rattle.layout.proofs.ApartLaws.{Apart, length-names, names-at}
-use Rattle.layout.proofs.GoodLaws.{Good, good-next, entry-four, opens-later, open-some, open-words}
+use Rattle.layout.proofs.EntryWords.{four-words}
+use Rattle.layout.proofs.GoodLaws.{Good, good-next, entry-good, opens-later, open-some, open-words}
 use Rattle.layout.proofs.ReadLaws.{read-sane}
 use Rattle.caption.proofs.PlaceLaws.{enters-no, enters-by}
 
@@ -84,7 +85,7 @@ line-adds st (w ∷ ws) g e =
     let n : 0 < st .left = ltb-true 0 (st .left) h in
     let (lo, hi) = g .kind n in
     test (eqb (st .sect) 2)
-    (λ (q : eqb (st .sect) 2 ≡ true). inr (rw (h, q) (record { four = entry-four st (w ∷ ws) (rw h at e); more = refl; here = eqb-true (st .sect) 2 q })))
+    (λ (q : eqb (st .sect) 2 ≡ true). let two : st .sect ≡ 2 = eqb-true (st .sect) 2 q in inr (rw (h, q) (record { four = four-words (st .sect) _ (entry-good st (w ∷ ws) (rw h at e) .long) (λ z. omega arith); more = refl; here = two })))
     (λ (q : eqb (st .sect) 2 ≡ false). let z : st .sect ≡ 2 → ⊥ = eqb-false (st .sect) 2 q in
     inl (rw (h, q) (record { same = refl; later = omega arith; short = λ i j. z (omega arith) }))))
     (λ (h : ltb 0 (st .left) ≡ false).

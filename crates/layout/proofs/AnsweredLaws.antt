@@ -18,16 +18,16 @@ use Rattle.layout.specs.declared.Progress.{Progress}
 use Rattle.layout.specs.declared.Layout.{Layout}
 use Rattle.layout.specs.Grammar.{nothing, fault}
 use Rattle.layout.specs.Layout.{grammar, layoutVerdict, layoutOf}
-use Rattle.layout.specs.Starts.{entryAt, trackStarts, obstacleStarts, stateOf, movedTo, kept, noStarts, begun, startsOf, noLayout, layoutRead, Held, Found, Answered}
+use Rattle.layout.specs.Starts.{entryAt, trackStarts, obstacleStarts, hookStarts, stateOf, movedTo, kept, noStarts, begun, startsOf, noLayout, layoutRead, Held, Found, Answered}
 use Rattle.layout.proofs.HeldLaws.{held-long}
 use Rattle.layout.proofs.ReadLaws.{verdict-unsound, verdict-sound, layout-sound, layout-refused}
 use Rattle.layout.proofs.ScanLaws.{held-nothing, Reader, reader, turn-stops, turn-more, ends-early, ends-right}
 
 -- ---- a text that 31 or 32 refuses
 
-none-long : (number place : ℕ) → length (noLayout number place .starts) ≡ 192
+none-long : (number place : ℕ) → length (noLayout number place .starts) ≡ 256
 unfolding noLayout
-none-long number place = length-replicate {A = ℕ} 192 0
+none-long number place = length-replicate {A = ℕ} 256 0
 
 module _ (s : List ℕ) (a : Answer) (e : a ≡ rules31to32 s) (n : a .number ≡ 0 → ⊥) where
   unsound : layoutVerdict s ≡ a
@@ -56,7 +56,7 @@ module _ (s : List ℕ) (z : rules31to32 s .number ≡ 0) (r : Layout) (f : Foun
   found-starts : r .starts ≡ cond (eqb (layoutVerdict s .number) 0) (startsOf s) noStarts
   found-starts = rw (verdict-sound s z) (f .starts)
 
-  pub found-read : length (r .starts) ≡ 192 → r ≡ layoutRead s
+  pub found-read : length (r .starts) ≡ 256 → r ≡ layoutRead s
   unfolding layoutRead
   found-read sized =
       let h = found-held in
@@ -64,9 +64,11 @@ module _ (s : List ℕ) (z : rules31to32 s .number ≡ 0) (r : Layout) (f : Foun
         ← h .rooms,
         ← h .tracks,
         ← h .obstacles,
+        ← h .hooks,
         held-long s (r .starts) (r .rooms) (omega (arith, h .few-rooms)),
         held-long s (trackStarts (r .starts)) (r .tracks) (omega (arith, h .few-tracks, length-drop 64 (r .starts))),
         held-long s (obstacleStarts (r .starts)) (r .obstacles) (omega (arith, h .few-obstacles, length-drop 128 (r .starts))),
+        held-long s (hookStarts (r .starts)) (r .hooks) (omega (arith, h .few-hooks, length-drop 192 (r .starts))),
         ← found-starts,
         ← found-verdict,
       )
@@ -75,7 +77,7 @@ module _ (s : List ℕ) (z : rules31to32 s .number ≡ 0) (r : Layout) (f : Foun
 
 record Reads (s : List ℕ) : Type 0 where
   it : Layout
-  sized : length (it .starts) ≡ 192
+  sized : length (it .starts) ≡ 256
   found : Found s it (grammar s)
 
 ended : (s starts : List ℕ) (c : Progress) (n at : ℕ) → Reader s starts c n at → length s ≤ at → Reads s

@@ -11,7 +11,7 @@ use Rattle.verdict.proofs.Lists.{map-at}
 use Rattle.verdict.proofs.Lowest.{none-under, under-none}
 use Rattle.names.specs.Name.{sameName}
 use Rattle.text.specs.Reading.{Word, Line, nth}
-use Rattle.layout.specs.Grammar.{namesOf, known}
+use Rattle.layout.specs.Grammar.{wordsAt, namesOf, doorsOf, known}
 
 -- ---- the last of a list
 
@@ -28,19 +28,36 @@ pub getD-mid : {A : Type 0} (d : A) (xs ys : List A) (y : A) → getD (xs ++ (y 
 getD-mid d [] ys y = refl
 getD-mid d (x ∷ xs) ys y = getD-mid d xs ys y
 
--- ---- names
+-- ---- word k of each entry: the names, and the doors
+
+pub words-join : (k : ℕ) (es : List Line) (e : Line) (more : List Line) → wordsAt k (es ++ (e ∷ more)) ≡ wordsAt k es ++ (nth e k ∷ wordsAt k more)
+words-join k es e more = map-append (λ (l : Line). nth l k) es (e ∷ more)
+
+pub words-long : (k : ℕ) (es : List Line) → length (wordsAt k es) ≡ length es
+words-long k es = length-map es (λ (e : Line). nth e k)
+
+pub words-here : (k : ℕ) (es : List Line) (j : ℕ) → j < length es → getD (wordsAt k es) j [] ≡ nth (getD es j []) k
+words-here k es j l = map-at (λ (e : Line). nth e k) [] [] es j l
 
 pub length-names : (es : List Line) → length (namesOf es) ≡ length es
 unfolding namesOf
-length-names es = length-map es (λ (e : Line). nth e 0)
+length-names es = words-long 0 es
 
 pub names-more : (es : List Line) (e : Line) → namesOf (es ++ (e ∷ [])) ≡ namesOf es ++ (nth e 0 ∷ [])
 unfolding namesOf
-names-more es e = map-append (λ (l : Line). nth l 0) es (e ∷ [])
+names-more es e = words-join 0 es e []
 
 pub names-at : (es : List Line) (j : ℕ) → j < length es → getD (namesOf es) j [] ≡ nth (getD es j []) 0
 unfolding namesOf
-names-at es j l = map-at (λ (e : Line). nth e 0) [] [] es j l
+names-at es j l = words-here 0 es j l
+
+pub length-doors : (es : List Line) → length (doorsOf es) ≡ length es
+unfolding doorsOf
+length-doors es = words-long 1 es
+
+pub doors-more : (es : List Line) (e : Line) → doorsOf (es ++ (e ∷ [])) ≡ doorsOf es ++ (nth e 1 ∷ [])
+unfolding doorsOf
+doors-more es e = words-join 1 es e []
 
 -- no two names are the same
 pub record Apart (names : List Word) : Type 0 where

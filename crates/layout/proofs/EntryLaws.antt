@@ -6,18 +6,19 @@ use mathlib.Core.List.{List, [], _∷_, _++_, append-assoc, append-nil}
 use Prim.Native.Nat.{ℕ, zero, suc, _+_, _-_, _≤_, _<_}
 use native.Mathlib.Omega.{arith}
 use lib.Dec.{eqb, ltb}
-use lib.ListN.{length}
-use borrow.Author.Tests.{lt-ltb, le-leb, lt-leb, eq-eqb}
+use lib.ListN.{length, getD, drop}
+use borrow.Author.Tests.{lt-ltb, le-leb, lt-leb, eqb-true, ne-eqb}
 use Rattle.verdict.proofs.Bools.{test}
-use Rattle.names.specs.Name.{same}
+use Rattle.verdict.proofs.Lowest.{some-under}
+use Rattle.names.specs.Name.{same, sameName}
 use Rattle.text.specs.Reading.{Word, Line, nth}
 use Rattle.names.proofs.NameLaws.{same-true}
 use Rattle.number.specs.Count.{value}
-use Rattle.number.proofs.DecimalLaws.{decimal-ok}
-use Rattle.layout.specs.Grammar.{Typed, State, sectionOf, follows, opens, withEntry, namesOf, known, placed, entryFault, openFault, fault, next, beginlayout, roomcount, trackcount, obstaclecount, doorhookcount, donelayout}
-use Rattle.layout.specs.Plain.{IsEntry}
-use Rattle.verdict.proofs.Each.{Each}
-use Rattle.layout.proofs.ApartLaws.{Apart, apart-before}
+use Rattle.layout.specs.Grammar.{Typed, State, sectionOf, follows, opens, withEntry, namesOf, doorsOf, known, namesIn, doorFault, hookFault, nameFault, entryFault, openFault, fault, next, beginlayout, roomcount, trackcount, obstaclecount, doorhookcount, donelayout}
+use Rattle.layout.specs.Plain.{IsEntry, IsHook}
+use Rattle.verdict.proofs.Each.{Each, each-as}
+use Rattle.layout.proofs.ApartLaws.{Apart, apart-before, words-join, length-names, names-at}
+use Rattle.layout.proofs.EntryWords.{some-words, are-numbers, numbers-from}
 use Rattle.layout.proofs.GoodLaws.{entry-good}
 use Rattle.layout.proofs.Accepts.{Accepts, accepts-next, next-accepts, end-accepts, Full}
 
@@ -32,6 +33,7 @@ withEntries k t es = record {
   rooms = cond (eqb k 2) (t .rooms ++ es) (t .rooms);
   tracks = cond (eqb k 3) (t .tracks ++ es) (t .tracks);
   obstacles = cond (eqb k 4) (t .obstacles ++ es) (t .obstacles);
+  hooks = cond (eqb k 5) (t .hooks ++ es) (t .hooks);
 }
 
 column-none : (q : Bool) (es : List Line) → cond q (es ++ []) es ≡ es
@@ -43,23 +45,53 @@ column-more true es e more = append-assoc es (e ∷ []) more
 column-more false es e more = refl
 
 pub entries-none : (k : ℕ) (t : Typed) → withEntries k t [] ≡ t
-entries-none k t = rw (column-none (eqb k 2) (t .rooms), column-none (eqb k 3) (t .tracks), column-none (eqb k 4) (t .obstacles))
+entries-none k t = rw (column-none (eqb k 2) (t .rooms), column-none (eqb k 3) (t .tracks), column-none (eqb k 4) (t .obstacles), column-none (eqb k 5) (t .hooks))
 
 entries-more : (k : ℕ) (t : Typed) (e : Line) (es : List Line) → withEntries k (withEntry k t e) es ≡ withEntries k t (e ∷ es)
 unfolding withEntry
-entries-more k t e es = rw (column-more (eqb k 2) (t .rooms) e es, column-more (eqb k 3) (t .tracks) e es, column-more (eqb k 4) (t .obstacles) e es)
+entries-more k t e es = rw (column-more (eqb k 2) (t .rooms) e es, column-more (eqb k 3) (t .tracks) e es, column-more (eqb k 4) (t .obstacles) e es, column-more (eqb k 5) (t .hooks) e es)
 
 -- ---- one entry
 
--- the entry's line has no fault where no room has its name
-entry-right : (st : State) (l : Line) → IsEntry l → (eqb (st .sect) 2 ≡ true → known (nth l 0) (namesOf (st .typed .rooms)) ≡ false) → entryFault st l ≡ 0
-unfolding entryFault placed
-entry-right st l g new =
-    let four = eq-eqb (length l) 4 (g .four) in
-    let x = decimal-ok (nth l 1) (g .x) in
-    let y = decimal-ok (nth l 2) (g .y) in
-    let z = decimal-ok (nth l 3) (g .z) in
-    test (eqb (st .sect) 2) (λ (h : eqb (st .sect) 2 ≡ true). rw (four, g .name, x, y, z, h, new h)) (λ (h : eqb (st .sect) 2 ≡ false). rw (four, g .name, x, y, z, h))
+-- a hook has no fault where no hook has its door
+known-by : (rooms : List Line) (w : Word) (i : ℕ) → i < length rooms → sameName w (nth (getD rooms i []) 0) ≡ true → known w (namesOf rooms) ≡ true
+unfolding known
+known-by rooms w i l s =
+    some-under (λ (j : ℕ). sameName w (getD (namesOf rooms) j [])) (length (namesOf rooms)) i (omega (arith, length-names rooms)) (rw (names-at rooms i l) s)
+
+hook-right : (t : Typed) (l : Line) → IsHook (t .rooms) l → known (nth l 1) (doorsOf (t .hooks)) ≡ false → hookFault t l ≡ 0
+unfolding hookFault doorFault
+hook-right t l g new = rw (known-by (t .rooms) (nth l 0) (g .at) (g .inside) (g .same), g .door, new)
+
+-- the entry's line has none where no room has its name
+module _ (st : State) (l : Line) (g : IsEntry (st .sect) (st .typed .rooms) l) (new : eqb (st .sect) 2 ≡ true → known (nth l 0) (namesOf (st .typed .rooms)) ≡ false) (door : eqb (st .sect) 5 ≡ true → known (nth l 1) (doorsOf (st .typed .hooks)) ≡ false) where
+  names-right : nameFault st l ≡ 0
+  unfolding nameFault
+  names-right =
+      test (eqb (st .sect) 5)
+      (λ (h : eqb (st .sect) 5 ≡ true). rw (g .name, h) (hook-right (st .typed) l (g .hook (eqb-true (st .sect) 5 h)) (door h)))
+      (λ (h : eqb (st .sect) 5 ≡ false). rw (g .name, h))
+
+  entry-right : entryFault st l ≡ 0
+  unfolding entryFault
+  entry-right =
+      let n = are-numbers (drop (namesIn (st .sect)) l) (numbers-from (namesIn (st .sect)) l (g .number)) in
+      test (eqb (st .sect) 2) (λ (h : eqb (st .sect) 2 ≡ true). rw (g .long, names-right, n, h, new h))
+      (λ (h : eqb (st .sect) 2 ≡ false). rw (g .long, names-right, n, h))
+
+-- hooks leave the rooms as they are
+rooms-stay : (k : ℕ) (t : Typed) (e : Line) → k ≡ 5 → withEntry k t e .rooms ≡ t .rooms
+unfolding withEntry
+rooms-stay k t e h = rw (ne-eqb k 2 (λ z. omega arith))
+
+other-rooms : (k : ℕ) (a b : List Line) (l : Line) → (k ≡ 5 → a ≡ b) → IsEntry k a l → IsEntry k b l
+other-rooms k a b l same g = record { long = g .long; name = g .name; number = g .number; hook = λ h. rw (same h) at (g .hook h) }
+
+entries-on : (k : ℕ) (t : Typed) (e : Line) (es : List Line) → Each (IsEntry k (t .rooms)) es → Each (IsEntry k (withEntry k t e .rooms)) es
+entries-on k t e = each-as _ _ (λ l. other-rooms k _ _ l (λ h. sym (rooms-stay k t e h)))
+
+entries-back : (k : ℕ) (t : Typed) (e : Line) (es : List Line) → Each (IsEntry k (withEntry k t e .rooms)) es → Each (IsEntry k (t .rooms)) es
+entries-back k t e = each-as _ _ (λ l. other-rooms k _ _ l (rooms-stay k t e))
 
 -- while entries are to come, a line is one
 module _ (k n : ℕ) (t : Typed) (w : Word) (ws : Line) where
@@ -74,37 +106,41 @@ module _ (k n : ℕ) (t : Typed) (w : Word) (ws : Line) where
   unfolding next
   next-is = let z : suc n - 1 ≡ n = omega arith in rw (some, z)
 
-entry-accepts : (k n : ℕ) (t : Typed) (l : Line) (ls : List Line) (u : Typed) → IsEntry l → (eqb k 2 ≡ true → known (nth l 0) (namesOf (t .rooms)) ≡ false) → Accepts (at k n (withEntry k t l)) ls u → Accepts (at k (suc n) t) (l ∷ ls) u
-entry-accepts k n t [] ls u g new h = absurd (omega (arith, g .four))
-entry-accepts k n t (w ∷ ws) ls u g new h =
-    accepts-next (at k (suc n) t) (w ∷ ws) ls u (fault-is k n t w ws ∙ entry-right (at k (suc n) t) (w ∷ ws) g new) (rw (next-is k n t w ws) h)
+entry-accepts : (k n : ℕ) (t : Typed) (l : Line) (ls : List Line) (u : Typed) → IsEntry k (t .rooms) l → (eqb k 2 ≡ true → known (nth l 0) (namesOf (t .rooms)) ≡ false) → (eqb k 5 ≡ true → known (nth l 1) (doorsOf (t .hooks)) ≡ false) → Accepts (at k n (withEntry k t l)) ls u → Accepts (at k (suc n) t) (l ∷ ls) u
+entry-accepts k n t [] ls u g new door h = absurd (some-words k (g .long))
+entry-accepts k n t (w ∷ ws) ls u g new door h =
+    accepts-next (at k (suc n) t) (w ∷ ws) ls u (fault-is k n t w ws ∙ entry-right (at k (suc n) t) (w ∷ ws) g new door) (rw (next-is k n t w ws) h)
 
-accepts-entry : (k n : ℕ) (t : Typed) (l : Line) (ls : List Line) (u : Typed) → Full l → Accepts (at k (suc n) t) (l ∷ ls) u → IsEntry l × Accepts (at k n (withEntry k t l)) ls u
+accepts-entry : (k n : ℕ) (t : Typed) (l : Line) (ls : List Line) (u : Typed) → Full l → Accepts (at k (suc n) t) (l ∷ ls) u → IsEntry k (t .rooms) l × Accepts (at k n (withEntry k t l)) ls u
 accepts-entry k n t [] ls u f h = absurd (f .some refl)
 accepts-entry k n t (w ∷ ws) ls u f h =
     let (z, r) = next-accepts (at k (suc n) t) (w ∷ ws) ls u h in
     let e = sym (fault-is k n t w ws) ∙ z in
     (entry-good (at k (suc n) t) (w ∷ ws) e, rw (next-is k n t w ws) at r)
 
--- ---- the entries of a section, one after the other; of rooms, none has the name of one before it
+-- ---- the entries of a section, one after the other; of rooms, none has the name of one before it, of hooks none its door
 
 abbrev pub Fresh : ℕ → Typed → List Line → Type 0
-Fresh k t es = eqb k 2 ≡ true → Apart (namesOf (t .rooms ++ es))
+Fresh k t es = (eqb k 2 ≡ true → Apart (namesOf (t .rooms ++ es))) × (eqb k 5 ≡ true → Apart (doorsOf (t .hooks ++ es)))
 
 names-join : (done : List Line) (e : Line) (es : List Line) → namesOf (done ++ (e ∷ es)) ≡ namesOf done ++ (nth e 0 ∷ namesOf es)
 unfolding namesOf
-names-join [] e es = refl
-names-join (d ∷ done) e es = ap (λ (x : List Word). nth d 0 ∷ x) (names-join done e es)
+names-join done e es = words-join 0 done e es
+
+doors-join : (done : List Line) (e : Line) (es : List Line) → doorsOf (done ++ (e ∷ es)) ≡ doorsOf done ++ (nth e 1 ∷ doorsOf es)
+unfolding doorsOf
+doors-join done e es = words-join 1 done e es
 
 fresh-next : (k : ℕ) (t : Typed) (e : Line) (es : List Line) → Fresh k t (e ∷ es) → Fresh k (withEntry k t e) es
 unfolding withEntry
-fresh-next k t e es f h = rw (h, append-assoc (t .rooms) (e ∷ []) es) (f h)
+fresh-next k t e es (f, d) = (λ h. rw (h, append-assoc (t .rooms) (e ∷ []) es) (f h), λ h. rw (h, append-assoc (t .hooks) (e ∷ []) es) (d h))
 
-pub entries-accept : (k : ℕ) (t : Typed) (es ls : List Line) (u : Typed) → Each IsEntry es → Fresh k t es → Accepts (at k 0 (withEntries k t es)) ls u → Accepts (at k (length es) t) (es ++ ls) u
+pub entries-accept : (k : ℕ) (t : Typed) (es ls : List Line) (u : Typed) → Each (IsEntry k (t .rooms)) es → Fresh k t es → Accepts (at k 0 (withEntries k t es)) ls u → Accepts (at k (length es) t) (es ++ ls) u
 entries-accept k t [] ls u g f h = rw (entries-none k t) at h
 entries-accept k t (e ∷ es) ls u (g, gs) f h =
-    entry-accepts k (length es) t e (es ++ ls) u g (λ q. apart-before (namesOf (t .rooms)) (nth e 0) (namesOf es) (rw (names-join (t .rooms) e es) at (f q)))
-    (entries-accept k (withEntry k t e) es ls u gs (fresh-next k t e es f) (rw (entries-more k t e es) h))
+    entry-accepts k (length es) t e (es ++ ls) u g (λ q. apart-before (namesOf (t .rooms)) (nth e 0) (namesOf es) (rw (names-join (t .rooms) e es) at (f .0 q)))
+    (λ q. apart-before (doorsOf (t .hooks)) (nth e 1) (doorsOf es) (rw (doors-join (t .hooks) e es) at (f .1 q)))
+    (entries-accept k (withEntry k t e) es ls u (entries-on k t e es gs) (fresh-next k t e es f) (rw (entries-more k t e es) h))
 
 -- the lines of n entries, and those behind them
 pub record Taken (k n : ℕ) (t : Typed) (ls : List Line) (u : Typed) : Type 0 where
@@ -112,7 +148,7 @@ pub record Taken (k n : ℕ) (t : Typed) (ls : List Line) (u : Typed) : Type 0 w
   pub behind : List Line
   pub cut : ls ≡ entries ++ behind
   pub many : length entries ≡ n
-  pub right : Each IsEntry entries
+  pub right : Each (IsEntry k (t .rooms)) entries
   pub full : Each Full behind
   pub goes-on : Accepts (at k 0 (withEntries k t entries)) behind u
 
@@ -135,7 +171,7 @@ accepts-entries k (suc n) t (l ∷ ls) u b (f, fs) h =
       behind = q .behind;
       cut = ap (λ (x : List Line). l ∷ x) (q .cut);
       many = ap suc (q .many);
-      right = (g, q .right);
+      right = (g, entries-back k t l (q .entries) (q .right));
       full = q .full;
       goes-on = rw (entries-more k t l (q .entries)) at (q .goes-on);
     }

@@ -1,4 +1,5 @@
 pub mod ApartLaws
+pub mod EntryWords
 pub mod GoodLaws
 pub mod ReadLaws
 pub mod Accepts

@@ -1,10 +1,13 @@
 -- A line's words and faults, at the values that the code has in hand. Assumes nothing.
 use mathlib.Core.Path.{_≡_, refl, sym, _∙_}
-use mathlib.Core.Bool.{Bool, true, false, cond, not}
-use Prim.Native.Nat.{ℕ, suc, _-_, _≤_, _<_}
+use mathlib.Core.Bool.{Bool, true, false, cond, not, _&&_}
+use mathlib.Core.List.{[]}
+use Prim.Native.Nat.{ℕ, suc, _+_, _-_, _≤_, _<_}
 use native.Mathlib.Omega.{arith}
 use lib.Dec.{eqb, ltb}
-use lib.ListN.{length}
+use lib.ListN.{length, drop, drop-of-length-le}
+use lib.Seq.{drop-cons}
+use native.Mathlib.Numerals.{add-one}
 use borrow.Author.Tests.{eqb-true, eq-eqb, ne-eqb, le-leb, lt-leb}
 use Rattle.verdict.proofs.Bools.{same-test}
 use Rattle.number.specs.declared.Num.{Num}
@@ -13,7 +16,7 @@ use Rattle.names.specs.Name.{same}
 use Rattle.number.specs.Count.{value, isCount}
 use Rattle.number.specs.Number.{numberOf}
 use Rattle.text.specs.Reading.{Word, Line, nth}
-use Rattle.layout.specs.Grammar.{sectionOf, follows, opens, placed, wordsOf, countRight, openFault, beginlayout, roomcount, trackcount, obstaclecount, doorhookcount, donelayout}
+use Rattle.layout.specs.Grammar.{sectionOf, follows, opens, namesIn, entryLong, numbers, wordsOf, openFault, beginlayout, roomcount, trackcount, obstaclecount, doorhookcount, donelayout}
 use Rattle.layout.specs.Starts.{countIn}
 
 -- ---- keywords
@@ -82,18 +85,6 @@ opens-none sect w k r e f t = rw (← e, ← f, t)
 
 -- ---- counts
 
-pub count-of-hooks : (k : ℕ) (w : Word) (v : ℕ) → k ≡ 5 → isCount w ≡ true → v ≡ value 0 w → eqb v 0 ≡ countRight k w
-unfolding countRight
-count-of-hooks k w v h e f = rw (h, e, f)
-
-pub count-of-others : (k : ℕ) (w : Word) → isCount w ≡ true → (k ≡ 5 → ⊥) → true ≡ countRight k w
-unfolding countRight
-count-of-others k w e n = rw (e, ne-eqb k 5 n)
-
-pub count-wrong : (k : ℕ) (w : Word) → isCount w ≡ false → false ≡ countRight k w
-unfolding countRight
-count-wrong k w e = rw e
-
 pub count-in-some : (w : Word) (v : ℕ) → isCount w ≡ true → v ≡ value 0 w → v ≡ countIn w
 unfolding countIn
 count-in-some w v e f = rw e f
@@ -140,7 +131,7 @@ module _ (k : ℕ) (l : Line) (n m : ℕ) (en : n ≡ wordsOf k) (em : m ≡ len
   unfolding openFault
   open-single h o = rw (ne-eqb k 0 some, same-count h, two (within 2 5 k) n (unfold wordsOf in en) o)
 
-  pub open-counted : (u : Word) (r t : Bool) → m ≡ n → (n ≡ 1 → ⊥) → u ≡ nth l 1 → r ≡ countRight k u → r ≡ t → _≡_ {A = ℕ} (cond t 0 36) (openFault k l)
+  pub open-counted : (u : Word) (r t : Bool) → m ≡ n → (n ≡ 1 → ⊥) → u ≡ nth l 1 → r ≡ isCount u → r ≡ t → _≡_ {A = ℕ} (cond t 0 36) (openFault k l)
   unfolding openFault
   open-counted u r t h o eu er et =
       rw (ne-eqb k 0 some, same-count h, not-two (within 2 5 k) n (unfold wordsOf in en) o, ← eu, ← er, et) (go t)
@@ -155,16 +146,46 @@ module _ (k : ℕ) (l : Line) (n m : ℕ) (en : n ≡ wordsOf k) (em : m ≡ len
 number-told : (l : Line) (k : ℕ) (u : Word) (x : Num) (t : Bool) → u ≡ nth l k → x ≡ numberOf u → x .ok ≡ t → numberOf (nth l k) .ok ≡ t
 number-told l k u x t eu ex e = rw (← eu, ← ex) e
 
-module _ (l : Line) (u : Word) (x : Num) (eu : u ≡ nth l 1) (ex : x ≡ numberOf u) where
-  pub placed-no1 : x .ok ≡ false → false ≡ placed l
-  unfolding placed
-  placed-no1 e = rw (number-told l 1 u x false eu ex e)
+numbers-cons : (l : Line) (i : ℕ) (t : Bool) → i < length l → numberOf (nth l i) .ok ≡ t → numbers (drop i l) ≡ cond t (numbers (drop (i + 1) l)) false
+numbers-cons l i t h e = rw (add-one i, drop-cons l i [] h) (unfold numbers in (rw e (go t)))
+  where
+    go : (q : Bool) → (q && numbers (drop (suc i) l)) ≡ cond q (numbers (drop (suc i) l)) false
+    go true = refl
+    go false = refl
 
-  module _ (e : x .ok ≡ true) (v : Word) (y : Num) (ev : v ≡ nth l 2) (ey : y ≡ numberOf v) where
-    pub placed-no2 : y .ok ≡ false → false ≡ placed l
-    unfolding placed
-    placed-no2 f = rw (number-told l 1 u x true eu ex e, number-told l 2 v y false ev ey f)
+module _ (l : Line) (k i n : ℕ) (en : n ≡ length l) (inv : numbers (drop i l) ≡ numbers (drop k l)) where
+  module _ (h : i < n) (u : Word) (x : Num) (eu : u ≡ nth l i) (ex : x ≡ numberOf u) where
+    pub numbers-more : x .ok ≡ true → numbers (drop (i + 1) l) ≡ numbers (drop k l)
+    numbers-more e = sym (numbers-cons l i true (omega arith) (number-told l i u x true eu ex e)) ∙ inv
 
-    pub placed-by3 : (w : Word) (z : Num) → y .ok ≡ true → w ≡ nth l 3 → z ≡ numberOf w → z .ok ≡ placed l
-    unfolding placed
-    placed-by3 w z f ew ez = rw (number-told l 1 u x true eu ex e, number-told l 2 v y true ev ey f, number-told l 3 w z (z .ok) ew ez refl)
+    pub numbers-not : x .ok ≡ false → false ≡ numbers (drop k l)
+    numbers-not e = sym (numbers-cons l i false (omega arith) (number-told l i u x false eu ex e)) ∙ inv
+
+  pub numbers-done : n ≤ i → true ≡ numbers (drop k l)
+  numbers-done h = all ∙ inv
+    where
+      all : true ≡ numbers (drop i l)
+      all = let z : length l ≤ i = omega arith in rw (drop-of-length-le l z) (unfold numbers in refl)
+
+-- ---- how many words and names an entry has
+
+module _ (k : ℕ) where
+  pub names-hook : k ≡ 5 → 2 ≡ namesIn k
+  unfolding namesIn
+  names-hook h = rw h
+
+  pub names-other : (k ≡ 5 → ⊥) → 1 ≡ namesIn k
+  unfolding namesIn
+  names-other n = rw (ne-eqb k 5 n)
+
+  pub long-nine : (n : ℕ) → k ≡ 5 → n ≡ 9 → true ≡ entryLong k n
+  unfolding entryLong
+  long-nine n h e = rw (h, e)
+
+  pub long-more : (n : ℕ) → k ≡ 5 → (n ≡ 9 → ⊥) → eqb n 14 ≡ entryLong k n
+  unfolding entryLong
+  long-more n h e = rw (h, ne-eqb n 9 e)
+
+  pub long-four : (n : ℕ) → (k ≡ 5 → ⊥) → eqb n 4 ≡ entryLong k n
+  unfolding entryLong
+  long-four n h = rw (ne-eqb k 5 h)

@@ -16,12 +16,12 @@ use Rattle.text.specs.Sound.{rules31to32}
 use Rattle.text.specs.Written.{wordLines}
 use Rattle.text.specs.Reading.{Word, Line, nth, spoken}
 use Rattle.number.specs.Count.{value}
-use Rattle.layout.specs.Grammar.{Typed, nothing, start, Reading, sectionOf, follows, opens, namesOf, wordsOf, openFault, beginlayout, roomcount, trackcount, obstaclecount, doorhookcount, donelayout}
+use Rattle.layout.specs.Grammar.{Typed, nothing, start, Reading, sectionOf, follows, opens, wordsAt, namesOf, doorsOf, wordsOf, openFault, beginlayout, roomcount, trackcount, obstaclecount, doorhookcount, donelayout}
 use Rattle.layout.specs.Layout.{grammar, layoutVerdict, layoutOf}
-use Rattle.layout.specs.Plain.{Section, Optional, Spelled}
+use Rattle.layout.specs.Plain.{IsEntry, Section, Optional, Spelled}
 use Rattle.verdict.proofs.Each.{Each}
-use Rattle.layout.proofs.ApartLaws.{Apart, length-names, names-at}
-use Rattle.layout.proofs.GoodLaws.{open-some, open-words, opens-later, good-start}
+use Rattle.layout.proofs.ApartLaws.{Apart, words-long, words-here}
+use Rattle.layout.proofs.GoodLaws.{any-rooms, open-some, open-words, opens-later, good-start}
 use Rattle.layout.proofs.ReadLaws.{read-sane, layout-sound, verdict-sound, verdict-unsound, grammar-sane}
 use Rattle.layout.proofs.Accepts.{with, Accepts, read-any, accepts-end, end-accepts, accepts-spoken, spoken-accepts, spoken-full, Full}
 use Rattle.layout.proofs.EntryLaws.{at, withEntries, keyOf, section-key, opens-is, opens-by, open-accepts, accepts-open}
@@ -92,45 +92,58 @@ last-told t ((w ∷ ws) ∷ ls) u (f, fs) h =
     over ((v ∷ vs) ∷ ls) (g, gs) r = absurd (omega (arith, last 6 t v vs ls u r (omega arith) .1))
 
 -- a list that is not empty has a line, and here the line has a word
-rooms-told : (ls : List Line) (u : Typed) → Each Full ls → Accepts (at 1 0 nothing) ls u → Cut (Section roomcount) 2 nothing ls u
+rooms-told : (ls : List Line) (u : Typed) → Each Full ls → Accepts (at 1 0 nothing) ls u → Cut (Section (IsEntry 2 []) roomcount) 2 nothing ls u
 rooms-told [] u f h = let z : _≡_ {A = ℕ} 1 6 = end-accepts (at 1 0 nothing) u h .0 in absurd (omega arith)
 rooms-told ([] ∷ ls) u (f, fs) h = absurd (f .some refl)
 rooms-told ((w ∷ ws) ∷ ls) u (f, fs) h =
     section-told 1 2 nothing w ws ls u (omega arith) (omega arith) (early 1 nothing w ws ls u h (omega arith)) fs h
 
--- no two rooms of one name
-pub apart-told : (t : Typed) → Apart (namesOf (t .rooms)) → (i j : ℕ) → i < j → j < length (t .rooms) → sameName (nth (getD (t .rooms) j []) 0) (nth (getD (t .rooms) i []) 0) ≡ false
-apart-told t a i j l m =
-    rw (names-at (t .rooms) j m, names-at (t .rooms) i (omega arith)) at (a .other i j l (omega (arith, length-names (t .rooms))))
+-- no two entries of one word k: no two rooms of one name, no two doors
+pub words-told : (k : ℕ) (es : List Line) → Apart (wordsAt k es) → (i j : ℕ) → i < j → j < length es → sameName (nth (getD es j []) k) (nth (getD es i []) k) ≡ false
+words-told k es a i j l m =
+    rw (words-here k es j m, words-here k es i (omega arith)) at (a .other i j l (omega (arith, words-long k es)))
+
+pub apart-told : (es : List Line) → Apart (namesOf es) → (i j : ℕ) → i < j → j < length es → sameName (nth (getD es j []) 0) (nth (getD es i []) 0) ≡ false
+unfolding namesOf
+apart-told es a = words-told 0 es a
+
+pub doors-told : (es : List Line) → Apart (doorsOf es) → (i j : ℕ) → i < j → j < length es → sameName (nth (getD es j []) 1) (nth (getD es i []) 1) ≡ false
+unfolding doorsOf
+doors-told es a = words-told 1 es a
+
+-- rooms are right whichever rooms there are
+rooms-as : (a b ls es : List Line) → Section (IsEntry 2 a) roomcount ls es → Section (IsEntry 2 b) roomcount ls es
+rooms-as a b ls es s = record { count = s .count; spelled = s .spelled; right = s .right; told = s .told; entry = λ i l. any-rooms 2 (λ z. omega arith) a b _ (s .entry i l) }
 
 -- the parts that stand behind `beginlayout`, each in its place
-parts-told : (ls : List Line) (u : Typed) (b : List Line) → spoken ls ≡ (beginlayout ∷ []) ∷ b → Apart (namesOf (u .rooms))
-    → (r : Cut (Section roomcount) 2 nothing b u)
-    → (t : Cut (Optional trackcount) 3 (withEntries 2 nothing (r .entries)) (r .behind) u)
-    → (o : Cut (Optional obstaclecount) 4 (withEntries 3 (withEntries 2 nothing (r .entries)) (t .entries)) (t .behind) u)
-    → (k : Cut (Optional doorhookcount) 5 (withEntries 4 (withEntries 3 (withEntries 2 nothing (r .entries)) (t .entries)) (o .entries)) (o .behind) u)
-    → (k .behind ≡ (donelayout ∷ []) ∷ []) × (_≡_ {A = Typed} (record { rooms = r .entries; tracks = t .entries; obstacles = o .entries }) u)
+parts-told : (ls : List Line) (u : Typed) (b : List Line) → spoken ls ≡ (beginlayout ∷ []) ∷ b → Apart (namesOf (u .rooms)) → Apart (doorsOf (u .hooks))
+    → (r : Cut (Section (IsEntry 2 []) roomcount) 2 nothing b u)
+    → (t : Cut (Optional (IsEntry 3 (r .entries)) trackcount) 3 (withEntries 2 nothing (r .entries)) (r .behind) u)
+    → (o : Cut (Optional (IsEntry 4 (r .entries)) obstaclecount) 4 (withEntries 3 (withEntries 2 nothing (r .entries)) (t .entries)) (t .behind) u)
+    → (k : Cut (Optional (IsEntry 5 (r .entries)) doorhookcount) 5 (withEntries 4 (withEntries 3 (withEntries 2 nothing (r .entries)) (t .entries)) (o .entries)) (o .behind) u)
+    → (k .behind ≡ (donelayout ∷ []) ∷ []) × (_≡_ {A = Typed} (record { rooms = r .entries; tracks = t .entries; obstacles = o .entries; hooks = k .entries }) u)
     → Spelled ls u
-parts-told ls u b e a r t o k (d, q) = record {
+parts-told ls u b e a ds r t o k (d, q) = record {
   rooms = r .own;
   tracks = t .own;
   obstacles = o .own;
   hooks = k .own;
   order = e ∙ rw (r .cut, t .cut, o .cut, k .cut, d);
-  has-rooms = rw (ap (λ (x : Typed). x .rooms) q) at (r .is);
-  has-tracks = rw (ap (λ (x : Typed). x .tracks) q) at (t .is);
-  has-obstacles = rw (ap (λ (x : Typed). x .obstacles) q) at (o .is);
-  no-hooks = rw (k .few refl) at (k .is);
-  apart = apart-told u a;
+  has-rooms = rw (ap (λ (x : Typed). x .rooms) q) at (rooms-as [] (u .rooms) (r .own) (r .entries) (r .is));
+  has-tracks = rw (ap (λ (x : Typed). x .rooms) q, ap (λ (x : Typed). x .tracks) q) at (t .is);
+  has-obstacles = rw (ap (λ (x : Typed). x .rooms) q, ap (λ (x : Typed). x .obstacles) q) at (o .is);
+  has-hooks = rw (ap (λ (x : Typed). x .rooms) q, ap (λ (x : Typed). x .hooks) q) at (k .is);
+  apart = apart-told (u .rooms) a;
+  doors = doors-told (u .hooks) ds;
 }
 
-behind-told : (ls : List Line) (u : Typed) → Apart (namesOf (u .rooms)) → (b : List Line) → spoken ls ≡ (beginlayout ∷ []) ∷ b → Each Full b → Accepts (at 1 0 nothing) b u → Spelled ls u
-behind-told ls u a b e f h =
+behind-told : (ls : List Line) (u : Typed) → Apart (namesOf (u .rooms)) → Apart (doorsOf (u .hooks)) → (b : List Line) → spoken ls ≡ (beginlayout ∷ []) ∷ b → Each Full b → Accepts (at 1 0 nothing) b u → Spelled ls u
+behind-told ls u a ds b e f h =
     let r = rooms-told b u f h in
     let t = optional-told 2 (omega arith) (omega arith) _ u (r .behind) (r .full) (r .goes-on) in
     let o = optional-told 3 (omega arith) (omega arith) _ u (t .behind) (t .full) (t .goes-on) in
     let k = optional-told 4 (omega arith) (omega arith) _ u (o .behind) (o .full) (o .goes-on) in
-    parts-told ls u b e a r t o k (last-told _ (k .behind) u (k .full) (k .goes-on))
+    parts-told ls u b e a ds r t o k (last-told _ (k .behind) u (k .full) (k .goes-on))
 
 pub accepts-spelled : (ls : List Line) (u : Typed) → Accepts start ls u → Spelled ls u
 unfolding wordsOf
@@ -139,12 +152,15 @@ accepts-spelled ls u h = go (spoken ls) refl (spoken-full ls) (spoken-accepts ls
     a : Apart (namesOf (u .rooms))
     a = rw (h 0) at (read-sane ls 0 start good-start .typed .apart)
 
+    ds : Apart (doorsOf (u .hooks))
+    ds = rw (h 0) at (read-sane ls 0 start good-start .typed .doors)
+
     go : (b : List Line) → spoken ls ≡ b → Each Full b → Accepts start b u → Spelled ls u
     go [] e f r = let z : _≡_ {A = ℕ} 0 6 = end-accepts start u r .0 in absurd (omega arith)
     go ([] ∷ b) e (f, fs) r = absurd (f .some refl)
     go ((w ∷ ws) ∷ b) e (f, fs) r =
         let (one, more) = alone 0 nothing w ws b u r 1 (early 0 nothing w ws b u r (omega arith)) refl in
-        behind-told ls u a b (e ∙ ap (λ (x : Line). x ∷ b) one) fs more
+        behind-told ls u a ds b (e ∙ ap (λ (x : Line). x ∷ b) one) fs more
 
 -- ---- read where it is told
 
@@ -184,21 +200,31 @@ last-read : (t : Typed) → Accepts (at 5 0 t) ((donelayout ∷ []) ∷ []) t
 unfolding openFault wordsOf value
 last-read t = open-accepts 5 t donelayout [] [] t (rw opens-6) (rw opens-6 (accepts-end (at 6 0 t) refl))
 
-apart-read : (es : List Line) → ((i j : ℕ) → i < j → j < length es → sameName (nth (getD es j []) 0) (nth (getD es i []) 0) ≡ false) → Apart (namesOf es)
-apart-read es a = record {
+words-read : (k : ℕ) (es : List Line) → ((i j : ℕ) → i < j → j < length es → sameName (nth (getD es j []) k) (nth (getD es i []) k) ≡ false) → Apart (wordsAt k es)
+words-read k es a = record {
   other = λ i j l m.
-      let n : j < length es = omega (arith, length-names es) in
-      rw (names-at es j n, names-at es i (omega arith)) (a i j l n);
+      let n : j < length es = omega (arith, words-long k es) in
+      rw (words-here k es j n, words-here k es i (omega arith)) (a i j l n);
 }
+
+apart-read : (es : List Line) → ((i j : ℕ) → i < j → j < length es → sameName (nth (getD es j []) 0) (nth (getD es i []) 0) ≡ false) → Apart (namesOf es)
+unfolding namesOf
+apart-read es a = words-read 0 es a
+
+doors-read : (es : List Line) → ((i j : ℕ) → i < j → j < length es → sameName (nth (getD es j []) 1) (nth (getD es i []) 1) ≡ false) → Apart (doorsOf es)
+unfolding doorsOf
+doors-read es a = words-read 1 es a
 
 pub spelled-accepts : (ls : List Line) (u : Typed) → Spelled ls u → Accepts start ls u
 spelled-accepts ls u s =
-    let t2 : Typed = record { rooms = u .rooms; tracks = []; obstacles = [] } in
-    let t3 : Typed = record { rooms = u .rooms; tracks = u .tracks; obstacles = [] } in
-    let hooks = optional-read 4 (omega arith) (omega arith) u u (s .hooks) [] _ (s .no-hooks) (λ e. refl) key-5 (last-read u) in
-    let obstacles = optional-read 3 (omega arith) (omega arith) t3 u (s .obstacles) (u .obstacles) _ (s .has-obstacles) (λ e. absurd (omega arith)) key-4 hooks in
-    let tracks = optional-read 2 (omega arith) (omega arith) t2 u (s .tracks) (u .tracks) _ (s .has-tracks) (λ e. absurd (omega arith)) key-3 obstacles in
-    let rooms = section-read 1 2 nothing (s .rooms) (u .rooms) _ u (omega arith) (omega arith) opens-2 (s .has-rooms) (λ e. absurd (omega arith)) (λ e. apart-read (u .rooms) (s .apart)) tracks in
+    let t2 : Typed = record { rooms = u .rooms; tracks = []; obstacles = []; hooks = [] } in
+    let t3 : Typed = record { rooms = u .rooms; tracks = u .tracks; obstacles = []; hooks = [] } in
+    let t4 : Typed = record { rooms = u .rooms; tracks = u .tracks; obstacles = u .obstacles; hooks = [] } in
+    let hooks = optional-read 4 (omega arith) (omega arith) t4 u (s .hooks) (u .hooks) _ (s .has-hooks) (λ e. doors-read (u .hooks) (s .doors)) key-5 (last-read u) in
+    let obstacles = optional-read 3 (omega arith) (omega arith) t3 u (s .obstacles) (u .obstacles) _ (s .has-obstacles) (λ e. clash e refl) key-4 hooks in
+    let tracks = optional-read 2 (omega arith) (omega arith) t2 u (s .tracks) (u .tracks) _ (s .has-tracks) (λ e. clash e refl) key-3 obstacles in
+    let is-rooms = rooms-as (u .rooms) [] (s .rooms) (u .rooms) (s .has-rooms) in
+    let rooms = section-read 1 2 nothing (s .rooms) (u .rooms) _ u (omega arith) (omega arith) opens-2 is-rooms (λ e. apart-read (u .rooms) (s .apart), λ e. clash e refl) tracks in
     accepts-spoken ls start u (rw (s .order) (first-read _ u rooms))
 
 -- ---- a text

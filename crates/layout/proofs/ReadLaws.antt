@@ -1,4 +1,4 @@
--- Reading line by line, and what every layout that was read is: right entries, no two rooms of one name, at most 64 of a kind.
+-- Reading line by line, and what every layout that was read is: right entries, no two rooms of one name, no two doors, at most 64 of a kind.
 -- Assumes nothing.
 use mathlib.Core.Path.{_≡_, refl, sym, ap, _∙_}
 use mathlib.Core.Bool.{true, false}
@@ -14,7 +14,7 @@ use Rattle.verdict.proofs.Verdict.{then-next, then-stop, Proper, then-proper, r
 use Rattle.text.proofs.ReadingLaws.{read-next, read-stop, read-end}
 use Rattle.text.specs.Sound.{rules31to32, rule31, rule32}
 use Rattle.text.specs.Reading.{Line}
-use Rattle.layout.specs.Grammar.{Typed, nothing, State, start, Reading, stopped, namesOf, fault, next, finish, layoutGrammar, readFrom}
+use Rattle.layout.specs.Grammar.{Typed, nothing, State, start, Reading, stopped, namesOf, doorsOf, fault, next, finish, layoutGrammar, readFrom}
 use Rattle.layout.specs.Layout.{grammar, layoutVerdict, layoutOf}
 use Rattle.verdict.proofs.Each.{Each}
 use Rattle.layout.proofs.ApartLaws.{Apart}
@@ -24,23 +24,29 @@ use Rattle.layout.proofs.GoodLaws.{Good, good-start, good-next}
 -- ---- what was read
 
 pub record GoodTyped (t : Typed) : Type 0 where
-  pub rooms : Each IsEntry (t .rooms)
-  pub tracks : Each IsEntry (t .tracks)
-  pub obstacles : Each IsEntry (t .obstacles)
+  pub rooms : Each (IsEntry 2 (t .rooms)) (t .rooms)
+  pub tracks : Each (IsEntry 3 (t .rooms)) (t .tracks)
+  pub obstacles : Each (IsEntry 4 (t .rooms)) (t .obstacles)
+  pub hooks : Each (IsEntry 5 (t .rooms)) (t .hooks)
   pub apart : Apart (namesOf (t .rooms))
+  pub doors : Apart (doorsOf (t .hooks))
   pub few-rooms : length (t .rooms) ≤ 64
   pub few-tracks : length (t .tracks) ≤ 64
   pub few-obstacles : length (t .obstacles) ≤ 64
+  pub few-hooks : length (t .hooks) ≤ 64
 
 pub good-typed : (st : State) → Good st → GoodTyped (st .typed)
 good-typed st g = record {
   rooms = g .rooms;
   tracks = g .tracks;
   obstacles = g .obstacles;
+  hooks = g .hooks;
   apart = g .apart;
+  doors = g .doors;
   few-rooms = g .slot2 .few;
   few-tracks = g .slot3 .few;
   few-obstacles = g .slot4 .few;
+  few-hooks = g .slot5 .few;
 }
 
 pub good-nothing : GoodTyped nothing

@@ -4,7 +4,7 @@ use mathlib.Core.List.{List, _∷_}
 use Prim.Native.Nat.{ℕ, _+_, _≤_, _<_}
 use native.Mathlib.Omega.{arith}
 use lib.Dec.{ltb}
-use lib.ListN.{length, drop, length-set, length-replicate}
+use lib.ListN.{length, drop, length-drop, length-set, length-replicate}
 use borrow.Author.Tests.{eq-eqb, ne-eqb}
 use Rattle.verdict.specs.Verdict.{accepted}
 use Rattle.verdict.proofs.Bools.{test}
@@ -16,9 +16,9 @@ use Rattle.layout.specs.declared.Progress.{Progress}
 use Rattle.layout.specs.declared.Layout.{Layout}
 use Rattle.layout.specs.Grammar.{nothing, State, start, Reading, stopped, fault, finish, layoutGrammar}
 use Rattle.layout.specs.Layout.{grammar}
-use Rattle.layout.specs.Starts.{entryAt, held, Few, stateOf, movedTo, slotOf, kept, startsFrom, noStarts, begun, startsOf, noLayout, KeptEntries, Held, Found}
+use Rattle.layout.specs.Starts.{entryAt, held, Few, stateOf, movedTo, slotOf, kept, startsFrom, noStarts, begun, startsOf, noLayout, hookStarts, KeptSoFar, Held, Found}
 use Rattle.layout.proofs.GoodLaws.{Good, good-start, good-next}
-use Rattle.layout.proofs.HeldLaws.{kept-entries}
+use Rattle.layout.proofs.HeldLaws.{kept-entries, kept-doors}
 use Rattle.layout.proofs.StepLaws.{step}
 
 finish-early : (st : State) (n : ℕ) → (st .sect ≡ 6 → ⊥) → finish st n ≡ stopped 38 n
@@ -42,27 +42,31 @@ held-nothing s number place = record {
   rooms = refl;
   tracks = refl;
   obstacles = refl;
+  hooks = refl;
   few-rooms = omega arith;
   few-tracks = omega arith;
   few-obstacles = omega arith;
+  few-hooks = omega arith;
 }
 
 found-stopped : (s : List ℕ) (r : Layout) (found : Reading) (f n : ℕ) → found ≡ stopped f n → (f ≡ 0 → ⊥) → r ≡ noLayout f n → Found s r found
 unfolding noLayout
 found-stopped s r found f n e z q = rw (e, q) (record { verdict = refl; held = held-nothing s f n; starts = rw (ne-eqb f 0 z) })
 
-found-right : (s : List ℕ) (starts : List ℕ) (c : Progress) (r : Layout) (found : Reading) → found ≡ record { verdict = accepted; typed = stateOf s starts c .typed } → startsOf s ≡ starts → Few c → r .number ≡ 0 → r .place ≡ 0 → r .rooms ≡ c .rooms → r .tracks ≡ c .tracks → r .obstacles ≡ c .obstacles → r .starts ≡ starts → Found s r found
+found-right : (s : List ℕ) (starts : List ℕ) (c : Progress) (r : Layout) (found : Reading) → found ≡ record { verdict = accepted; typed = stateOf s starts c .typed } → startsOf s ≡ starts → Few c → r .number ≡ 0 → r .place ≡ 0 → r .rooms ≡ c .rooms → r .tracks ≡ c .tracks → r .obstacles ≡ c .obstacles → r .hooks ≡ c .hooks → r .starts ≡ starts → Found s r found
 unfolding stateOf
-found-right s starts c r found e k f n p x y z q = rw e (record {
+found-right s starts c r found e k f n p x y z w q = rw e (record {
   starts = q ∙ sym k;
   verdict = rw (n, p);
   held = record {
     rooms = rw (x, q);
     tracks = rw (y, q);
     obstacles = rw (z, q);
+    hooks = rw (w, q);
     few-rooms = omega (arith, f .rooms);
     few-tracks = omega (arith, f .tracks);
     few-obstacles = omega (arith, f .obstacles);
+    few-hooks = omega (arith, f .hooks);
   };
 })
 
@@ -102,7 +106,7 @@ starts-done s starts c at i h = i ∙ rw (line-none s at h) (unfold startsFrom i
 pub record Reader (s starts : List ℕ) (c : Progress) (passed at : ℕ) : Type 0 where
   pub fits : Few c
   pub good : Good (stateOf s starts c)
-  pub sized : length starts ≡ 192
+  pub sized : length starts ≡ 256
   pub stands : Standing layoutGrammar s (grammar s) (stateOf s starts c) passed at
   pub begun : startsOf s ≡ startsFrom starts c at (lines (drop at s))
 
@@ -110,9 +114,9 @@ pub record Reader (s starts : List ℕ) (c : Progress) (passed at : ℕ) : Type 
 pub reader : (s : List ℕ) → Reader s noStarts begun 0 0
 unfolding grammar
 reader s = record {
-  fits = record { rooms = omega arith; tracks = omega arith; obstacles = omega arith };
+  fits = record { rooms = omega arith; tracks = omega arith; obstacles = omega arith; hooks = omega arith };
   good = rw (start-state s noStarts) good-start;
-  sized = length-replicate {A = ℕ} 192 0;
+  sized = length-replicate {A = ℕ} 256 0;
   stands = rw (start-state s noStarts) (standing layoutGrammar s start);
   begun = starts-begun s;
 }
@@ -142,11 +146,15 @@ module _ (s starts : List ℕ) (c : Progress) (n at : ℕ) (inv : Reader s start
   pub ends-early : (r : Layout) → (c .sect ≡ 6 → ⊥) → r ≡ noLayout 38 n → Found s r (grammar s)
   ends-early r z q = found-stopped s r (grammar s) 38 n (over ∙ finish-early (stateOf s starts c) n (not-done s starts c z)) (λ y. omega arith) q
 
-  pub ends-right : c .sect ≡ 6 → Found s (record { number = 0; place = 0; rooms = c .rooms; tracks = c .tracks; obstacles = c .obstacles; starts = starts }) (grammar s)
+  pub ends-right : c .sect ≡ 6 → Found s (record { number = 0; place = 0; rooms = c .rooms; tracks = c .tracks; obstacles = c .obstacles; hooks = c .hooks; starts = starts }) (grammar s)
   ends-right z =
-      found-right s starts c _ (grammar s) (over ∙ finish-right (stateOf s starts c) n (done s starts c z)) (starts-done s starts c at (inv .begun) h) (inv .fits) refl refl refl refl refl refl
+      found-right s starts c _ (grammar s) (over ∙ finish-right (stateOf s starts c) n (done s starts c z)) (starts-done s starts c at (inv .begun) h) (inv .fits) refl refl refl refl refl refl refl
 
--- the rooms so far are kept
-pub kept-rooms : (s starts : List ℕ) (c : Progress) (n at : ℕ) → Reader s starts c n at → KeptEntries s starts (c .rooms)
+-- the rooms and the hooks so far are kept
+pub kept-so-far : (s starts : List ℕ) (c : Progress) (n at : ℕ) → Reader s starts c n at → KeptSoFar s starts c
 unfolding stateOf
-kept-rooms s starts c n at inv = kept-entries s starts (c .rooms) (inv .fits .rooms) (omega (arith, inv .fits .rooms, inv .sized)) (inv .good .rooms)
+kept-so-far s starts c n at inv = record {
+  rooms = kept-entries 2 _ s starts (c .rooms) (inv .fits .rooms) (omega (arith, inv .fits .rooms, inv .sized)) (inv .good .rooms);
+  hooks = kept-doors 5 _ s (hookStarts starts) (c .hooks) (inv .fits .hooks) (omega (arith, inv .fits .hooks, inv .sized, length-drop 192 starts)) (inv .good .hooks) refl;
+  sized = inv .sized;
+}

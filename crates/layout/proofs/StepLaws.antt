@@ -17,9 +17,9 @@ use Rattle.number.specs.Count.{value, isCount}
 use Rattle.layout.specs.declared.Progress.{Progress}
 use Rattle.text.specs.Reading.{Word, Line, nth}
 use Rattle.layout.specs.Grammar.{withEntry, opens, wordsOf, openFault, fault, next}
-use Rattle.layout.specs.Starts.{entryAt, held, Few, trackStarts, obstacleStarts, stateOf, countIn, entered, movedTo, slotOf, kept}
-use Rattle.layout.proofs.GoodLaws.{Good, open-words, open-count, count-right}
-use Rattle.layout.proofs.HeldLaws.{held-long, slot-room, slot-track, slot-obstacle}
+use Rattle.layout.specs.Starts.{entryAt, held, Few, trackStarts, obstacleStarts, hookStarts, stateOf, countIn, entered, movedTo, slotOf, kept}
+use Rattle.layout.proofs.GoodLaws.{Good, open-words, open-count}
+use Rattle.layout.proofs.HeldLaws.{held-long, slot-room, slot-track, slot-obstacle, slot-hook}
 
 -- ---- a start stored behind the n of its kind, and one stored elsewhere
 
@@ -51,40 +51,49 @@ record Spot (c : Progress) (p : ℕ) : Type 0 where
   own2 : c .sect ≡ 2 → (p ≡ 0 + c .rooms) × (c .rooms < 64)
   own3 : c .sect ≡ 3 → (p ≡ 64 + c .tracks) × (c .tracks < 64)
   own4 : c .sect ≡ 4 → (p ≡ 128 + c .obstacles) × (c .obstacles < 64)
+  own5 : c .sect ≡ 5 → (p ≡ 192 + c .hooks) × (c .hooks < 64)
   side2 : (p < 0) ⊎ (0 + c .rooms ≤ p)
   side3 : (p < 64) ⊎ (64 + c .tracks ≤ p)
   side4 : (p < 128) ⊎ (128 + c .obstacles ≤ p)
-  inside : p < 192
+  side5 : (p < 192) ⊎ (192 + c .hooks ≤ p)
+  inside : p < 256
 
-module _ (c : Progress) (f : Few c) (some : 0 < c .left) (kind : (2 ≤ c .sect) × (c .sect ≤ 4)) (h2 : c .sect ≡ 2 → c .rooms + c .left ≤ 64) (h3 : c .sect ≡ 3 → c .tracks + c .left ≤ 64) (h4 : c .sect ≡ 4 → c .obstacles + c .left ≤ 64) where
+module _ (c : Progress) (f : Few c) (some : 0 < c .left) (kind : (2 ≤ c .sect) × (c .sect ≤ 5)) (h2 : c .sect ≡ 2 → c .rooms + c .left ≤ 64) (h3 : c .sect ≡ 3 → c .tracks + c .left ≤ 64) (h4 : c .sect ≡ 4 → c .obstacles + c .left ≤ 64) (h5 : c .sect ≡ 5 → c .hooks + c .left ≤ 64) where
   spot : Spot c (slotOf c)
   spot =
       decided (ℕ-discrete (c .sect) 2)
       (λ (e : c .sect ≡ 2).
       let z : c .rooms ≡ slotOf c = slot-room c e in
       let m : c .rooms + c .left ≤ 64 = h2 e in
-      record { own2 = λ q. (omega arith, omega arith); own3 = λ q. absurd (omega arith); own4 = λ q. absurd (omega arith); side2 = inr (omega arith); side3 = inl (omega arith); side4 = inl (omega arith); inside = omega arith })
+      record { own2 = λ q. (omega arith, omega arith); own3 = λ q. absurd (omega arith); own4 = λ q. absurd (omega arith); own5 = λ q. absurd (omega arith); side2 = inr (omega arith); side3 = inl (omega arith); side4 = inl (omega arith); side5 = inl (omega arith); inside = omega arith })
       (λ (n : c .sect ≡ 2 → ⊥).
       decided (ℕ-discrete (c .sect) 3)
       (λ (e : c .sect ≡ 3).
       let z : 64 + c .tracks ≡ slotOf c = slot-track c n e in
       let m : c .tracks + c .left ≤ 64 = h3 e in
-      record { own2 = λ q. absurd (omega arith); own3 = λ q. (omega arith, omega arith); own4 = λ q. absurd (omega arith); side2 = inr (omega arith); side3 = inr (omega arith); side4 = inl (omega arith); inside = omega arith })
+      record { own2 = λ q. absurd (omega arith); own3 = λ q. (omega arith, omega arith); own4 = λ q. absurd (omega arith); own5 = λ q. absurd (omega arith); side2 = inr (omega arith); side3 = inr (omega arith); side4 = inl (omega arith); side5 = inl (omega arith); inside = omega arith })
       (λ (d : c .sect ≡ 3 → ⊥).
-      let z : 128 + c .obstacles ≡ slotOf c = slot-obstacle c n d in
-      let four : c .sect ≡ 4 = omega arith in
-      let m : c .obstacles + c .left ≤ 64 = h4 four in
-      record { own2 = λ q. absurd (n q); own3 = λ q. absurd (d q); own4 = λ q. (omega arith, omega arith); side2 = inr (omega arith); side3 = inr (omega arith); side4 = inr (omega arith); inside = omega arith }))
+      decided (ℕ-discrete (c .sect) 4)
+      (λ (e : c .sect ≡ 4).
+      let z : 128 + c .obstacles ≡ slotOf c = slot-obstacle c n d e in
+      let m : c .obstacles + c .left ≤ 64 = h4 e in
+      record { own2 = λ q. absurd (n q); own3 = λ q. absurd (d q); own4 = λ q. (omega arith, omega arith); own5 = λ q. absurd (omega arith); side2 = inr (omega arith); side3 = inr (omega arith); side4 = inr (omega arith); side5 = inl (omega arith); inside = omega arith })
+      (λ (o : c .sect ≡ 4 → ⊥).
+      let z : 192 + c .hooks ≡ slotOf c = slot-hook c n d o in
+      let five : c .sect ≡ 5 = omega arith in
+      let m : c .hooks + c .left ≤ 64 = h5 five in
+      record { own2 = λ q. absurd (n q); own3 = λ q. absurd (d q); own4 = λ q. absurd (o q); own5 = λ q. (omega arith, omega arith); side2 = inr (omega arith); side3 = inr (omega arith); side4 = inr (omega arith); side5 = inr (omega arith); inside = omega arith })))
 
-module _ (s starts : List ℕ) (c : Progress) (sized : length starts ≡ 192) (f : Few c) (g : Good (stateOf s starts c)) where
+module _ (s starts : List ℕ) (c : Progress) (sized : length starts ≡ 256) (f : Few c) (g : Good (stateOf s starts c)) where
   kept-spot : 0 < c .left → Spot c (slotOf c)
   unfolding stateOf
   kept-spot h =
       spot c f h (g .kind h) (λ e. omega (arith, g .slot2 .here e, held-long s starts (c .rooms) (omega arith)))
       (λ e. omega (arith, g .slot3 .here e, held-long s (trackStarts starts) (c .tracks) (omega (arith, length-drop 64 starts))))
       (λ e. omega (arith, g .slot4 .here e, held-long s (obstacleStarts starts) (c .obstacles) (omega (arith, length-drop 128 starts))))
+      (λ e. omega (arith, g .slot5 .here e, held-long s (hookStarts starts) (c .hooks) (omega (arith, length-drop 192 starts))))
 
-  pub slot-inside : 0 < c .left → slotOf c < 192
+  pub slot-inside : 0 < c .left → slotOf c < 256
   slot-inside h = kept-spot h .inside
 
   pub few-rooms : length (held s starts (c .rooms)) ≤ 64
@@ -97,7 +106,7 @@ module _ (s starts : List ℕ) (c : Progress) (sized : length starts ≡ 192) (f
       test (ltb 0 (c .left))
       (λ (h : ltb 0 (c .left) ≡ true).
       let q = kept-spot (ltb-true 0 (c .left) h) in
-      rw (h, held-other s starts at (slotOf c) 0 (c .rooms) (q .side2), held-other s starts at (slotOf c) 64 (c .tracks) (q .side3), held-other s starts at (slotOf c) 128 (c .obstacles) (q .side4)))
+      rw (h, held-other s starts at (slotOf c) 0 (c .rooms) (q .side2), held-other s starts at (slotOf c) 64 (c .tracks) (q .side3), held-other s starts at (slotOf c) 128 (c .obstacles) (q .side4), held-other s starts at (slotOf c) 192 (c .hooks) (q .side5)))
       (λ (h : ltb 0 (c .left) ≡ false). rw h)
 
   -- an entry
@@ -109,6 +118,7 @@ module _ (s starts : List ℕ) (c : Progress) (sized : length starts ≡ 192) (f
         column s starts at 2 (c .sect) (slotOf c) 0 (c .rooms) (omega arith) (q .own2) (q .side2),
         column s starts at 3 (c .sect) (slotOf c) 64 (c .tracks) (omega arith) (q .own3) (q .side3),
         column s starts at 4 (c .sect) (slotOf c) 128 (c .obstacles) (omega arith) (q .own4) (q .side4),
+        column s starts at 5 (c .sect) (slotOf c) 192 (c .hooks) (omega arith) (q .own5) (q .side5),
       )
 
   entry-fits : 0 < c .left → Few (entered c)
@@ -119,6 +129,7 @@ module _ (s starts : List ℕ) (c : Progress) (sized : length starts ≡ 192) (f
         rooms = at-most 2 (c .rooms) (f .rooms) (λ e. q .own2 e .1);
         tracks = at-most 3 (c .tracks) (f .tracks) (λ e. q .own3 e .1);
         obstacles = at-most 4 (c .obstacles) (f .obstacles) (λ e. q .own4 e .1);
+        hooks = at-most 5 (c .hooks) (f .hooks) (λ e. q .own5 e .1);
       }
     where
       at-most : (k n : ℕ) → n ≤ 64 → (c .sect ≡ k → n < 64) → cond (eqb (c .sect) k) (n + 1) n ≤ 64
@@ -134,12 +145,12 @@ no-word (w ∷ v ∷ l) e = absurd (omega arith)
 count-said : (k : ℕ) (l : Line) → openFault k l ≡ 0 → countIn (nth l 1) ≡ value 0 (nth l 1)
 count-said k l e =
     test (within 2 5 k)
-    (λ (h : within 2 5 k ≡ true). let z = count-right k (nth l 1) (open-count k l e h) in unfold countIn in (rw z))
+    (λ (h : within 2 5 k ≡ true). let z = open-count k l e h in unfold countIn in (rw z))
     (λ (h : within 2 5 k ≡ false). let n : wordsOf k ≡ 1 = unfold wordsOf in (rw h) in no-word l (open-words k l e ∙ n))
 
 -- ---- the law: the code's state behind a line is the grammar's next one
 
-module _ (s starts : List ℕ) (c : Progress) (at : ℕ) (sized : length starts ≡ 192) (f : Few c) (g : Good (stateOf s starts c)) where
+module _ (s starts : List ℕ) (c : Progress) (at : ℕ) (sized : length starts ≡ 256) (f : Few c) (g : Good (stateOf s starts c)) where
   -- what is to be shown of a line
   abbrev Steps : Line → Type 0
   Steps l = (stateOf s (kept starts c at) (movedTo c l) ≡ next (stateOf s starts c) l) × Few (movedTo c l)
@@ -160,7 +171,7 @@ module _ (s starts : List ℕ) (c : Progress) (at : ℕ) (sized : length starts 
       same = unfold movedTo next stateOf kept in (rw (h, count-said (opens (c .sect) w) (w ∷ ws) o))
 
       fits : Few (movedTo c (w ∷ ws))
-      fits = unfold movedTo in (rw h (record { rooms = f .rooms; tracks = f .tracks; obstacles = f .obstacles }))
+      fits = unfold movedTo in (rw h (record { rooms = f .rooms; tracks = f .tracks; obstacles = f .obstacles; hooks = f .hooks }))
 
   by-blank : Steps []
   unfolding movedTo next

@@ -1,9 +1,9 @@
 -- The grammar of a layout (LYT), over a text that is cut into lines of words: what is wrong with a line, what a line adds, and the verdict
 -- of all lines. A blank line is a line of no words. Definitions only.
 use Prim.Native.Nat.{ℕ, suc, _-_}
-use mathlib.Core.Bool.{Bool, cond, not, _&&_, _||_}
+use mathlib.Core.Bool.{Bool, true, cond, not, _&&_, _||_}
 use mathlib.Core.List.{List, [], _∷_, _++_, map}
-use lib.ListN.{length, getD}
+use lib.ListN.{length, getD, drop}
 use lib.Dec.{leb, ltb, eqb}
 use Rattle.verdict.specs.declared.Answer.{Answer}
 use Rattle.verdict.specs.Verdict.{refused, accepted}
@@ -48,16 +48,17 @@ follows sect k = cond (leb k 2) (eqb (suc sect) k) (leb 2 sect && ltb sect k)
 unfoldable pub opens : ℕ → Word → ℕ
 opens sect w = cond (follows sect (sectionOf w)) (sectionOf w) 0
 
--- ---- entries: name x y z
+-- ---- entries: name x y z; of a hook room, door, x y z, four numbers, and five more or none
 
 -- the entries of a layout as they were typed, each a line of words
 pub record Typed : Type 0 where
   pub rooms : List Line
   pub tracks : List Line
   pub obstacles : List Line
+  pub hooks : List Line
 
 abbrev pub nothing : Typed
-nothing = record { rooms = []; tracks = []; obstacles = [] }
+nothing = record { rooms = []; tracks = []; obstacles = []; hooks = [] }
 
 -- one entry more, in section k
 unfoldable pub withEntry : ℕ → Typed → Line → Typed
@@ -65,11 +66,18 @@ withEntry k t e = record {
   rooms = cond (eqb k 2) (t .rooms ++ (e ∷ [])) (t .rooms);
   tracks = cond (eqb k 3) (t .tracks ++ (e ∷ [])) (t .tracks);
   obstacles = cond (eqb k 4) (t .obstacles ++ (e ∷ [])) (t .obstacles);
+  hooks = cond (eqb k 5) (t .hooks ++ (e ∷ [])) (t .hooks);
 }
 
--- the names of entries
+-- word k of each entry: the names, and of hooks the doors
+abbrev pub wordsAt : ℕ → List Line → List Word
+wordsAt k es = map (λ (e : Line). nth e k) es
+
 unfoldable pub namesOf : List Line → List Word
-namesOf es = map (λ (e : Line). nth e 0) es
+namesOf es = wordsAt 0 es
+
+unfoldable pub doorsOf : List Line → List Word
+doorsOf es = wordsAt 1 es
 
 -- one of the names is this one; letter case is ignored
 unfoldable pub known : Word → List Word → Bool
@@ -90,28 +98,49 @@ pub record State : Type 0 where
 abbrev pub start : State
 start = record { sect = 0; left = 0; typed = nothing }
 
--- three numbers
-unfoldable pub placed : Line → Bool
-placed l = (numberOf (nth l 1) .ok) && ((numberOf (nth l 2) .ok) && (numberOf (nth l 3) .ok))
+-- how many names an entry of section k starts with: of a hook its room and its door, else its own name
+unfoldable pub namesIn : ℕ → ℕ
+namesIn k = cond (eqb k 5) 2 1
 
--- an entry: 33 word count, 34 name, 35 number, 37 name twice; only rooms are checked for 37
+-- an entry of section k may have n words: a hook nine or fourteen, another entry four
+unfoldable pub entryLong : ℕ → ℕ → Bool
+entryLong k n = cond (eqb k 5) (eqb n 9 || eqb n 14) (eqb n 4)
+
+-- every word is a number
+unfoldable pub numbers : List Word → Bool
+numbers [] = true
+numbers (w ∷ ws) = (numberOf w .ok) && numbers ws
+
+-- the first of two faults
+abbrev pub firstOf : ℕ → ℕ → ℕ
+firstOf f g = cond (eqb f 0) g f
+
+-- a door: 34 name, 37 a door twice; doors are compared with doors only
+unfoldable pub doorFault : List Line → Word → ℕ
+doorFault hooks w = cond (not (isName w)) 34 (cond (known w (doorsOf hooks)) 37 0)
+
+-- a hook: 39 unknown room, then its door's faults
+unfoldable pub hookFault : Typed → Line → ℕ
+hookFault t l = cond (not (known (nth l 0) (namesOf (t .rooms)))) 39 (doorFault (t .hooks) (nth l 1))
+
+-- the names of an entry: 34 name; a hook's first name is its room
+unfoldable pub nameFault : State → Line → ℕ
+nameFault st l = cond (not (isName (nth l 0))) 34 (cond (eqb (st .sect) 5) (hookFault (st .typed) l) 0)
+
+-- an entry: 33 word count, the faults of its names, 35 number, 37 name twice; of names only rooms are checked for 37
 unfoldable pub entryFault : State → Line → ℕ
 entryFault st l =
-    cond (not (eqb (length l) 4)) 33
-    (cond (not (isName (nth l 0))) 34
-    (cond (not (placed l)) 35 (cond (eqb (st .sect) 2 && known (nth l 0) (namesOf (st .typed .rooms))) 37 0)))
+    cond (not (entryLong (st .sect) (length l))) 33
+    (firstOf (nameFault st l)
+    (cond (not (numbers (drop (namesIn (st .sect)) l))) 35 (cond (eqb (st .sect) 2 && known (nth l 0) (namesOf (st .typed .rooms))) 37 0)))
 
 -- how many words the line that opens section k has: a keyword and a count, or a keyword
 unfoldable pub wordsOf : ℕ → ℕ
 wordsOf k = cond (within 2 5 k) 2 1
 
--- the count of section k: one or two digits, not over 64; `doorhookcount` must be 0
-unfoldable pub countRight : ℕ → Word → Bool
-countRight k w = isCount w && (not (eqb k 5) || eqb (value 0 w) 0)
-
 -- a line that is to open section k: 33 wrong keyword or word count, 36 count
 unfoldable pub openFault : ℕ → Line → ℕ
-openFault k l = cond (eqb k 0 || not (eqb (length l) (wordsOf k))) 33 (cond (within 2 5 k && not (countRight k (nth l 1))) 36 0)
+openFault k l = cond (eqb k 0 || not (eqb (length l) (wordsOf k))) 33 (cond (within 2 5 k && not (isCount (nth l 1))) 36 0)
 
 -- an entry while some are to come, else a line that opens a section; a blank line is no fault. Behind `donelayout` no section follows: 33
 unfoldable pub fault : State → Line → ℕ

@@ -1,4 +1,4 @@
--- What the code keeps of a layout: the places where its entries' lines start, rooms from 0 on, tracks from 64 on, obstacles from 128 on.
+-- What the code keeps of a layout: the places where its entries' lines start, rooms from 0 on, tracks from 64 on, obstacles from 128 on, hooks from 192 on.
 -- Names and numbers are read again from the text. Definitions only.
 use mathlib.Core.Path.{_≡_}
 use Prim.Native.Nat.{ℕ, _+_, _-_, _≤_, _<_}
@@ -24,18 +24,24 @@ entryAt s at = words (lineAt s at)
 unfoldable pub held : List ℕ → List ℕ → ℕ → List Line
 held s starts n = map (entryAt s) (take n starts)
 
--- the starts of the tracks, and of the obstacles, among all that are kept
+-- the starts of the tracks, of the obstacles, and of the hooks, among all that are kept
 abbrev pub trackStarts : List ℕ → List ℕ
 trackStarts starts = drop 64 starts
 
 abbrev pub obstacleStarts : List ℕ → List ℕ
 obstacleStarts starts = drop 128 starts
 
--- n entries whose starts are kept: at most 64, none past the starts, and each has a name
-pub record KeptEntries (s starts : List ℕ) (n : ℕ) : Type 0 where
+abbrev pub hookStarts : List ℕ → List ℕ
+hookStarts starts = drop 192 starts
+
+-- n entries whose starts are kept: at most 64, none past the starts, and each has a name as word k
+pub record KeptWords (k : ℕ) (s starts : List ℕ) (n : ℕ) : Type 0 where
   pub few : n ≤ 64
   pub inside : n ≤ length starts
-  pub name : (j : ℕ) → j < n → isName (nth (entryAt s (getD starts j 0)) 0) ≡ true
+  pub name : (j : ℕ) → j < n → isName (nth (entryAt s (getD starts j 0)) k) ≡ true
+
+abbrev pub KeptEntries : List ℕ → List ℕ → ℕ → Type 0
+KeptEntries = KeptWords 0
 
 -- the name of the entry whose start is kept at k, nothing where none is
 unfoldable pub keptName : List ℕ → List ℕ → ℕ → Word
@@ -46,6 +52,13 @@ pub record Few (c : Progress) : Type 0 where
   pub rooms : c .rooms ≤ 64
   pub tracks : c .tracks ≤ 64
   pub obstacles : c .obstacles ≤ 64
+  pub hooks : c .hooks ≤ 64
+
+-- what a line is read against: the rooms and the hooks so far are kept
+pub record KeptSoFar (s starts : List ℕ) (c : Progress) : Type 0 where
+  pub rooms : KeptEntries s starts (c .rooms)
+  pub hooks : KeptWords 1 s (hookStarts starts) (c .hooks)
+  pub sized : length starts ≡ 256
 
 -- the state that the code stands for
 unfoldable pub stateOf : List ℕ → List ℕ → Progress → State
@@ -56,6 +69,7 @@ stateOf s starts c = record {
     rooms = held s starts (c .rooms);
     tracks = held s (trackStarts starts) (c .tracks);
     obstacles = held s (obstacleStarts starts) (c .obstacles);
+    hooks = held s (hookStarts starts) (c .hooks);
   };
 }
 
@@ -71,17 +85,18 @@ entered c = record {
   rooms = cond (eqb (c .sect) 2) (c .rooms + 1) (c .rooms);
   tracks = cond (eqb (c .sect) 3) (c .tracks + 1) (c .tracks);
   obstacles = cond (eqb (c .sect) 4) (c .obstacles + 1) (c .obstacles);
+  hooks = cond (eqb (c .sect) 5) (c .hooks + 1) (c .hooks);
 }
 
 unfoldable pub movedTo : Progress → Line → Progress
 movedTo c [] = c
 movedTo c (w ∷ ws) =
     cond (ltb 0 (c .left)) (entered c)
-    (record { sect = opens (c .sect) w; left = countIn (nth (w ∷ ws) 1); rooms = c .rooms; tracks = c .tracks; obstacles = c .obstacles })
+    (record { sect = opens (c .sect) w; left = countIn (nth (w ∷ ws) 1); rooms = c .rooms; tracks = c .tracks; obstacles = c .obstacles; hooks = c .hooks })
 
 -- where the next entry's start is kept
 unfoldable pub slotOf : Progress → ℕ
-slotOf c = cond (eqb (c .sect) 2) (c .rooms) (cond (eqb (c .sect) 3) (64 + c .tracks) (128 + c .obstacles))
+slotOf c = cond (eqb (c .sect) 2) (c .rooms) (cond (eqb (c .sect) 3) (64 + c .tracks) (cond (eqb (c .sect) 4) (128 + c .obstacles) (192 + c .hooks)))
 
 -- the starts behind a line that starts at `at`: while entries are to come it is kept; a blank line's is written over by the next one's
 unfoldable pub kept : List ℕ → Progress → ℕ → List ℕ
@@ -93,11 +108,11 @@ startsFrom starts c at [] = starts
 startsFrom starts c at (l ∷ ls) = startsFrom (kept starts c at) (movedTo c (words l)) (at + length l + 1) ls
 
 abbrev pub noStarts : List ℕ
-noStarts = replicate 192 0
+noStarts = replicate 256 0
 
 -- the code's state before the first line
 abbrev pub begun : Progress
-begun = record { sect = 0; left = 0; rooms = 0; tracks = 0; obstacles = 0 }
+begun = record { sect = 0; left = 0; rooms = 0; tracks = 0; obstacles = 0; hooks = 0 }
 
 -- those of a text
 unfoldable pub startsOf : List ℕ → List ℕ
@@ -107,7 +122,7 @@ startsOf s = startsFrom noStarts begun 0 (lines s)
 
 -- a refused layout: no entries
 unfoldable pub noLayout : ℕ → ℕ → Layout
-noLayout number place = record { number = number; place = place; rooms = 0; tracks = 0; obstacles = 0; starts = noStarts }
+noLayout number place = record { number = number; place = place; rooms = 0; tracks = 0; obstacles = 0; hooks = 0; starts = noStarts }
 
 -- the reader's answer: the verdict, how many entries of each kind there are, and their starts; none on refusal
 unfoldable pub layoutRead : List ℕ → Layout
@@ -117,6 +132,7 @@ layoutRead s = record {
   rooms = length (layoutOf s .rooms);
   tracks = length (layoutOf s .tracks);
   obstacles = length (layoutOf s .obstacles);
+  hooks = length (layoutOf s .hooks);
   starts = cond (eqb (layoutVerdict s .number) 0) (startsOf s) noStarts;
 }
 
@@ -125,9 +141,11 @@ pub record Held (s : List ℕ) (r : Layout) (t : Typed) : Type 0 where
   pub rooms : held s (r .starts) (r .rooms) ≡ t .rooms
   pub tracks : held s (trackStarts (r .starts)) (r .tracks) ≡ t .tracks
   pub obstacles : held s (obstacleStarts (r .starts)) (r .obstacles) ≡ t .obstacles
+  pub hooks : held s (hookStarts (r .starts)) (r .hooks) ≡ t .hooks
   pub few-rooms : r .rooms ≤ 64
   pub few-tracks : r .tracks ≤ 64
   pub few-obstacles : r .obstacles ≤ 64
+  pub few-hooks : r .hooks ≤ 64
 
 -- the code found what a reading says
 pub record Found (s : List ℕ) (r : Layout) (found : Reading) : Type 0 where
@@ -139,4 +157,4 @@ pub record Found (s : List ℕ) (r : Layout) (found : Reading) : Type 0 where
 pub record Answered (s : List ℕ) (r : Layout) : Type 0 where
   pub verdict : refused (r .number) (r .place) ≡ layoutVerdict s
   pub held : Held s r (layoutOf s)
-  pub sized : length (r .starts) ≡ 192
+  pub sized : length (r .starts) ≡ 256

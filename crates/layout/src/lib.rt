@@ -6,7 +6,7 @@ ghost use mathlib.Core.Bool.{true};
 ghost use Prim.Native.Nat.{_≤_};
 ghost use lib.ListN.{length};
 ghost use Rattle.names.specs.Name.{isName};
-ghost use Rattle.layout.specs.Grammar.{namesOf, knownBut};
+ghost use Rattle.layout.specs.Grammar.{namesIn, namesOf, knownBut};
 ghost use Rattle.layout.specs.Layout.{grammar};
 ghost use Rattle.layout.specs.Starts.{held, KeptEntries, noLayout, Found, layoutRead};
 
@@ -19,17 +19,19 @@ struct Progress {
     rooms: usize,
     tracks: usize,
     obstacles: usize,
+    hooks: usize,
 }
 
 // A layout that was read: the verdict, how many entries of each kind there are, and where their lines start (rooms from 0 on, tracks from
-// 64 on, obstacles from 128 on). No entries on refusal.
+// 64 on, obstacles from 128 on, hooks from 192 on). No entries on refusal.
 pub struct Layout {
     pub number: u32,
     pub place: u32,
     pub rooms: usize,
     pub tracks: usize,
     pub obstacles: usize,
-    pub starts: [usize; 192],
+    pub hooks: usize,
+    pub starts: [usize; 256],
 }
 
 // ---- the reader
@@ -44,7 +46,8 @@ fn refused_layout(number: u32, place: u32) -> Layout
         rooms: 0,
         tracks: 0,
         obstacles: 0,
-        starts: [0usize; 192],
+        hooks: 0,
+        starts: [0usize; 256],
     }
 }
 
@@ -53,13 +56,14 @@ fn read_lines(s: &[u8]) -> Layout
     requires { ⌜ length (now s) ≤ 65536 ⌝ }
     ensures { λ r. ⌜ Found (now (s .entry)) r (grammar (now (s .entry))) ⌝ }
 {
-    let mut starts = [0usize; 192];
+    let mut starts = [0usize; 256];
     let mut st = Progress {
         sect: 0,
         left: 0,
         rooms: 0,
         tracks: 0,
         obstacles: 0,
+        hooks: 0,
     };
     let mut at = 0;
     let mut passed: usize = 0;
@@ -82,6 +86,7 @@ fn read_lines(s: &[u8]) -> Layout
         rooms: st.rooms,
         tracks: st.tracks,
         obstacles: st.obstacles,
+        hooks: st.hooks,
         starts,
     }
 }
@@ -97,19 +102,22 @@ pub fn read(s: &[u8]) -> Layout
     read_lines(s)
 }
 
-// ---- what other crates call of the lines
+// ---- what other crates ask of entries
+
+// How many names an entry of section k starts with.
+pub fn names_in(k: usize) -> usize
+    ensures { λ r. ⌜ r ≡ namesIn k ⌝ }
+{
+    if k == 5 {
+        return 2;
+    }
+    1
+}
 
 // One of the first n entries, another than `but`, has this name.
 pub fn is_known(s: &[u8], starts: &[usize], n: usize, but: usize, w: &[u8]) -> bool
     requires { ⌜ KeptEntries (now s) (now starts) n × (isName (now w) ≡ true) ⌝ }
     ensures { λ r. ⌜ r ≡ knownBut but (now (w .entry)) (namesOf (held (now (s .entry)) (now (starts .entry)) n)) ⌝ }
 {
-    let mut j = 0;
-    while j < n {
-        if lines::is_named(s, starts, j, but, w) {
-            return true;
-        }
-        j += 1;
-    }
-    false
+    lines::is_among(s, starts, n, but, 0, w)
 }

@@ -1,29 +1,27 @@
 -- What the calls answer, case by case. Assumes nothing.
 use mathlib.Core.Path.{_≡_, sym, ap, _∙_}
-use mathlib.Core.List.{List, map}
+use mathlib.Core.List.{List}
 use Prim.Native.Nat.{ℕ, _≤_}
-use native.Mathlib.Omega.{arith}
-use lib.ListN.{length, length-map}
+use lib.ListN.{length}
 use Rattle.verdict.specs.declared.Answer.{Answer}
 use Rattle.verdict.specs.declared.Form.{Form}
 use Rattle.verdict.specs.Output.{noForm}
 use Rattle.verdict.proofs.Verdict.{then-next, then-stop}
 use Rattle.verdict.proofs.Output.{Answers, refused-form, first-refuses, second-refuses, third-decides}
-use Rattle.letters.specs.Case.{lowered}
 use Rattle.text.specs.Reading.{Word}
 use Rattle.text.specs.Written.{rule40}
 use Rattle.names.proofs.NameLaws.{name-long}
 use Rattle.layout.specs.declared.Layout.{Layout}
-use Rattle.layout.specs.Layout.{layoutVerdict, layoutOf}
+use Rattle.layout.specs.Layout.{layoutVerdict}
 use Rattle.rooms.specs.Rooms.{nameVerdict}
 use Rattle.layout.specs.Starts.{layoutRead}
-use Rattle.layout.proofs.ReadLaws.{layout-good}
 use Rattle.rooms.proofs.RoomLaws.{verdict-is, verdict-accepts}
-use Rattle.layoutform.specs.Form.{entryOf, partsOf, partsOfTyped, formText, longestForm}
+use Rattle.layoutform.specs.Form.{partsOf, formText, longestForm}
 use Rattle.layoutform.specs.Rewrite.{renamed, renamedForm, rewriteVerdict, renameVerdict}
+use Rattle.layoutform.proofs.PartLaws.{parts-good}
 use Rattle.layoutform.proofs.FormTrip.{form-within}
 use Rattle.layoutform.proofs.LengthLaws.{form-short}
-use Rattle.layoutform.proofs.RenameLaws.{renamed-past, renamed-good, Names, names}
+use Rattle.layoutform.proofs.RenameLaws.{renamed-own, renamed-good, Names, names}
 
 module _ (s : List ℕ) (r : Layout) (a : r ≡ layoutRead s) where
   -- ---- rewriting
@@ -35,8 +33,7 @@ module _ (s : List ℕ) (r : Layout) (a : r ≡ layoutRead s) where
       stop = unfold rewriteVerdict in (then-stop (layoutVerdict s) (λ y. z (sym (ap (λ (v : Answer). v .number) (verdict-is s r a)) ∙ y)) _)
 
   own-name : (w : Word) → renamed (partsOf s) 64 w ≡ partsOf s
-  unfolding renamed partsOf partsOfTyped
-  own-name w = rw (renamed-past (map entryOf (layoutOf s .rooms)) 64 (lowered w) (omega (arith, length-map (layoutOf s .rooms) entryOf, layout-good s .few-rooms)))
+  own-name w = renamed-own (partsOf s) (parts-good s) 64 w (parts-good s .few-rooms)
 
   pub own-short : (w : Word) → length (renamedForm s 64 w) ≤ longestForm
   own-short w = rw (own-name w) (form-within s)

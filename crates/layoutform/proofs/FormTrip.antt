@@ -23,15 +23,16 @@ use Rattle.layoutform.specs.Form.{Entry, LayoutParts, partsOfTyped, part
 use Rattle.text.specs.Written.{rule40}
 use Rattle.verdict.proofs.Each.{Each, each-append, each-map}
 use Rattle.layout.proofs.ReadLaws.{verdict-sound, layout-accepted}
-use Rattle.layoutform.proofs.PartLaws.{GoodEntry, GoodParts, parts-good, line-plain, lines-again}
+use Rattle.layoutform.proofs.PartLaws.{GoodEntry, GoodParts, parts-good}
+use Rattle.layoutform.proofs.LineLaws.{line-plain, lines-again}
 use Rattle.layoutform.proofs.FormLaws.{formTyped, form-lines}
 use Rattle.layoutform.proofs.LengthLaws.{form-short}
 
 -- ---- the form can be written
 
-section-plain : (key : Word) (es : List Entry) → Plain key → Each GoodEntry es → AllLines (section key es)
+section-plain : (k : ℕ) (rooms : List Word) (key : Word) (es : List Entry) → Plain key → Each (GoodEntry k rooms) es → AllLines (section key es)
 unfolding section
-section-plain key es k g = ((k, (count-plain (length es), tt)), each-map GoodEntry AllPlain entryLine line-plain es g)
+section-plain k rooms key es p g = ((p, (count-plain (length es), tt)), each-map (GoodEntry k rooms) AllPlain entryLine (line-plain k rooms) es g)
 
 plain-first : Plain beginlayout
 unfolding beginlayout isName nameByte classOf run
@@ -61,10 +62,10 @@ form-plain : (p : LayoutParts) → GoodParts p → AllLines (form p)
 unfolding form
 form-plain p g = (
   (plain-first, tt),
-  each-append AllPlain (section roomcount (p .rooms)) _ (section-plain roomcount (p .rooms) plain-rooms (g .rooms))
-      (each-append AllPlain (section trackcount (p .tracks)) _ (section-plain trackcount (p .tracks) plain-tracks (g .tracks))
-      (each-append AllPlain (section obstaclecount (p .obstacles)) _ (section-plain obstaclecount (p .obstacles) plain-obstacles (g .obstacles))
-      (each-append AllPlain (section doorhookcount []) _ (section-plain doorhookcount [] plain-hooks tt) ((plain-last, tt), tt)))),
+  each-append AllPlain (section roomcount (p .rooms)) _ (section-plain 2 _ roomcount (p .rooms) plain-rooms (g .rooms))
+      (each-append AllPlain (section trackcount (p .tracks)) _ (section-plain 3 _ trackcount (p .tracks) plain-tracks (g .tracks))
+      (each-append AllPlain (section obstaclecount (p .obstacles)) _ (section-plain 4 _ obstaclecount (p .obstacles) plain-obstacles (g .obstacles))
+      (each-append AllPlain (section doorhookcount (p .hooks)) _ (section-plain 5 _ doorhookcount (p .hooks) plain-hooks (g .hooks)) ((plain-last, tt), tt)))),
 )
 
 -- ---- right parts, written and read
@@ -86,7 +87,7 @@ module _ (p : LayoutParts) (g : GoodParts p) where
 
   pub good-again : partsOf (formText p) ≡ p
   unfolding partsOf partsOfTyped formTyped
-  good-again = ap partsOfTyped good-typed-again ∙ rw (lines-again (p .rooms) (g .rooms), lines-again (p .tracks) (g .tracks), lines-again (p .obstacles) (g .obstacles))
+  good-again = ap partsOfTyped good-typed-again ∙ rw (lines-again 2 _ (p .rooms) (g .rooms), lines-again 3 _ (p .tracks) (g .tracks), lines-again 4 _ (p .obstacles) (g .obstacles), lines-again 5 _ (p .hooks) (g .hooks))
 
   -- the form is never over 65,536 bytes: 40 is for an output that is too short alone
   pub short-40 : (room : ℕ) → rule40 (formText p) room ≡ rule 40 (ltb room (length (formText p))) 0

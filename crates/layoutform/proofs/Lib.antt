@@ -1,8 +1,11 @@
 pub mod PartLaws
+pub mod LineLaws
 pub mod FormLaws
 pub mod LengthLaws
 pub mod FormTrip
+pub mod ByName
 pub mod RenameLaws
+pub mod HookLaws
 pub mod PrintLaws
 pub mod WholeLaws
 pub mod AnswerLaws

@@ -30,7 +30,7 @@ module _ (s : List ℕ) (r : Layout) (a : r ≡ layoutRead s) where
   pub rooms-kept : KeptEntries s (r .starts) (r .rooms)
   rooms-kept =
       let h = answered s r a .held in
-      kept-entries s (r .starts) (r .rooms) (h .few-rooms) (omega (arith, h .few-rooms, answered s r a .sized)) (rw (h .rooms) (layout-good s .rooms))
+      kept-entries 2 (layoutOf s .rooms) s (r .starts) (r .rooms) (h .few-rooms) (omega (arith, h .few-rooms, answered s r a .sized)) (rw (h .rooms) (layout-good s .rooms))
 
   pub rooms-are : r .rooms ≡ length (roomNames s)
   unfolding roomNames

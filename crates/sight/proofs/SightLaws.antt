@@ -39,7 +39,7 @@ pub names-right : (layout : List ℕ) (j : ℕ) → j < length (roomNames layout
 unfolding roomNames
 names-right layout j l =
     let m : j < length (layoutOf layout .rooms) = omega (arith, length-names (layoutOf layout .rooms)) in
-    rw (names-at (layoutOf layout .rooms) j m) (each-at IsEntry [] (layoutOf layout .rooms) (layout-good layout .rooms) j m .name)
+    rw (names-at (layoutOf layout .rooms) j m) (each-at (IsEntry 2 (layoutOf layout .rooms)) [] (layoutOf layout .rooms) (layout-good layout .rooms) j m .name)
 
 module _ (layout s : List ℕ) where
   names-sane : Sane (length (roomNames layout)) (grammar (roomNames layout) s)

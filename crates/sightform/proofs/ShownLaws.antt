@@ -17,7 +17,8 @@ use Rattle.layoutform.specs.Form.{Entry, LayoutParts, partsOf, formText}
 use Rattle.layoutform.specs.Rewrite.{renamed}
 use Rattle.rooms.specs.Rooms.{roomNames}
 use Rattle.verdict.proofs.Each.{Each}
-use Rattle.layoutform.proofs.PartLaws.{partNames, GoodEntry, GoodParts, parts-good, line-names}
+use Rattle.layoutform.proofs.PartLaws.{partNames, GoodEntry, GoodParts, parts-good}
+use Rattle.layoutform.proofs.LineLaws.{line-names}
 use Rattle.layoutform.proofs.FormLaws.{formTyped}
 use Rattle.layoutform.proofs.FormTrip.{good-typed-again}
 use Rattle.layoutform.proofs.RenameLaws.{renamed-names, renamed-good, names-of-parts}
@@ -26,10 +27,10 @@ use Rattle.sight.specs.Sight.{grammar}
 use Rattle.sightform.specs.Rewrite.{shownNames, renamedNames}
 
 -- the names of right parts are in lower case
-small-names : (es : List Entry) → Each GoodEntry es → map lowered (partNames es) ≡ partNames es
+small-names : (k : ℕ) (rooms : List Word) (es : List Entry) → Each (GoodEntry k rooms) es → map lowered (partNames es) ≡ partNames es
 unfolding partNames
-small-names [] g = refl
-small-names (e ∷ es) (g, h) = rw (g .small, small-names es h)
+small-names k rooms [] g = refl
+small-names k rooms (e ∷ es) (g, h) = rw (g .name .small, small-names k rooms es h)
 
 module _ (p : LayoutParts) (g : GoodParts p) where
   -- the names that are read from a fixed form, and shown for it
@@ -39,7 +40,7 @@ module _ (p : LayoutParts) (g : GoodParts p) where
 
   pub form-shown-names : shownNames (formText p) ≡ partNames (p .rooms)
   unfolding shownNames
-  form-shown-names = ap (map lowered) form-room-names ∙ small-names (p .rooms) (g .rooms)
+  form-shown-names = ap (map lowered) form-room-names ∙ small-names 2 _ (p .rooms) (g .rooms)
 
 -- a layout's fixed form shows the names that the layout shows
 pub shown-again : (layout : List ℕ) → shownNames (formText (partsOf layout)) ≡ shownNames layout

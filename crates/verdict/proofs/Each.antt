@@ -32,6 +32,11 @@ module _ {A : Type 0} (P : A → Type 0) where
   each-of d [] h = tt
   each-of d (x ∷ xs) h = (h zero (omega arith), each-of d xs (λ k l. h (suc k) (omega arith)))
 
+-- a property that follows from another
+pub each-as : {A : Type 0} (P Q : A → Type 0) → ((x : A) → P x → Q x) → (xs : List A) → Each P xs → Each Q xs
+each-as P Q f [] h = tt
+each-as P Q f (x ∷ xs) (p, h) = (f x p, each-as P Q f xs h)
+
 pub each-map : {A B : Type 0} (P : A → Type 0) (Q : B → Type 0) (f : A → B) → ((x : A) → P x → Q (f x)) → (xs : List A) → Each P xs → Each Q (map f xs)
 each-map P Q f g [] h = tt
 each-map P Q f g (x ∷ xs) (p, h) = (g x p, each-map P Q f g xs h)

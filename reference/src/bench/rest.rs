@@ -4,6 +4,7 @@ use crate::answer::Session;
 use crate::calls::{Calls, OTHER, REFERENCE};
 use crate::floor::WORK;
 use crate::generate::fields::word_of;
+use crate::generate::hooks;
 use crate::generate::model::Model;
 use crate::generate::random::Random;
 use crate::generate::seams::{enough, spread, stored_twice};
@@ -181,7 +182,7 @@ fn under(floor: &[u8], lowest: usize, records: usize) -> Vec<u8> {
     [below, above].concat()
 }
 
-/// Layouts and sight texts of 8 to 64 rooms.
+/// Layouts and sight texts of 8 to 64 rooms, then a layout with hooks.
 fn texts_table(sides: &[Calls]) {
     let mut random = Random::new(1);
     let (mut layouts, mut sights) = (None, None);
@@ -198,6 +199,22 @@ fn texts_table(sides: &[Calls]) {
             black_box((side.sight_rewrite)(&layout, &vis, &mut out));
         });
     }
+    hooks_row(sides);
+}
+
+/// A layout of 64 rooms and 64 hooks. It has numbers of its own, so that those of the other layouts stay as they are.
+fn hooks_row(sides: &[Calls]) {
+    let mut random = Random::new(2);
+    let names = texts::names(&mut random, 64);
+    let mut plan = rooms_only(&mut random, &names);
+    let last = plan.pop();
+    hooks::add(&mut plan, &mut random, &names, 64);
+    plan.extend(last);
+    let (layout, mut out) = (texts::plain(&plan), vec![0; 65_536]);
+    assert_eq!((REFERENCE.layout_rewrite)(&layout, &mut out).number, 0);
+    row("layout_hooks", 64, sides, &mut None, |side| {
+        black_box((side.layout_rewrite)(&layout, &mut out));
+    });
 }
 
 /// A layout of these rooms and nothing else.

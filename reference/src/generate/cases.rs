@@ -5,9 +5,10 @@ use super::random::Random;
 use super::seams::{self, Mending};
 use super::sessions::{self, Edit, Play};
 use super::texts::{self, Word};
-use super::{damage, floors, queries, text_damage};
+use super::{damage, floors, hooks, queries, text_damage};
 use crate::floor::{OLD_WORK, WORK};
 use crate::journal::{LINK, PAINT};
+use crate::text::LONGEST;
 use crate::{form, layout, sight};
 
 /// A call and its numbers. What an edit writes is handed over as 32 bits.
@@ -103,7 +104,8 @@ fn one<const N: usize>(call: Call, lent: [Lent; N]) -> Case {
     }
 }
 
-/// One case in so many lends a small floor's outputs at every length in turn.
+/// One case in so many lends a small floor's outputs at every length in turn, and another one has a hook that is wrong in
+/// every way in turn.
 pub const TURN: u64 = 20;
 
 /// Case number `number` of the run with this seed.
@@ -112,6 +114,9 @@ pub fn case(seed: u64, number: u64) -> Case {
     let random = &mut random;
     if number % TURN == TURN - 1 {
         return Case::Mending(seams::in_turn(random, (number / TURN) as usize));
+    }
+    if number % TURN == TURN / 2 {
+        return hooked_in_turn(random, (number / TURN) as usize);
     }
     match random.under(59) {
         0..=11 => read(random),
@@ -146,7 +151,7 @@ fn out(random: &mut Random, wanted: usize) -> Vec<u8> {
         0 => wanted.saturating_sub(1),
         1 => 0,
         2 => wanted + 1,
-        3 => wanted + random.under(100),
+        3 => wanted + random.under(100 + wanted.min(LONGEST)),
         4 => random.under(wanted + 1),
         _ => wanted,
     };
@@ -219,11 +224,25 @@ fn layout_text(random: &mut Random, rooms: &[Word], damaged: bool) -> Vec<u8> {
     text_of(random, plan, damaged)
 }
 
+/// A layout one of whose hooks is wrong in the way of this turn; where it is right, the layout is mostly renamed.
+fn hooked_in_turn(random: &mut Random, turn: usize) -> Case {
+    let (rooms, plan) = texts::hooked_in_turn(random, turn);
+    let text = texts::spaced(random, &plan);
+    match hooks::is_right_in_turn(turn) && !random.once_in(3) {
+        true => rename_of(random, text, &rooms),
+        false => rewrite_of(random, text),
+    }
+}
+
 fn layout_rewrite(random: &mut Random) -> Case {
     let rooms = texts::rooms(random);
     let damaged = !random.once_in(4);
     let text = layout_text(random, &rooms, damaged);
-    let wanted = layout::rewrite(&text, &mut vec![0; 20_000]).length;
+    rewrite_of(random, text)
+}
+
+fn rewrite_of(random: &mut Random, text: Vec<u8>) -> Case {
+    let wanted = layout::rewrite(&text, &mut vec![0; LONGEST]).length;
     let out = out(random, wanted as usize);
     one(Call::LayoutRewrite, [("text", text), ("out", out)])
 }
@@ -262,12 +281,33 @@ fn room(random: &mut Random, rooms: &[Word]) -> u32 {
     }
 }
 
+/// A room to be renamed, half of the time one that a hook names, and the typed name, now and then that of a door.
+fn renaming(random: &mut Random, rooms: &[Word], layout: &[u8]) -> (u32, Word) {
+    let (mut room, mut name) = (room(random, rooms), typed(random, rooms));
+    let layout = layout::read(layout).unwrap_or_default();
+    if layout.hooks.is_empty() {
+        return (room, name);
+    }
+    let [one, other] = [0; 2].map(|_: i32| &layout.hooks[random.under(layout.hooks.len())]);
+    if random.once_in(2) {
+        room = layout.room_named(&one.room).map_or(room, |at| at as u32);
+    }
+    if random.once_in(4) {
+        name = texts::recased(random, &other.door);
+    }
+    (room, name)
+}
+
 fn layout_rename(random: &mut Random) -> Case {
     let rooms = texts::rooms(random);
     let damaged = random.once_in(6);
     let text = layout_text(random, &rooms, damaged);
-    let (room, name) = (room(random, &rooms), typed(random, &rooms));
-    let wanted = layout::rename(&text, room, &name, &mut vec![0; 20_000]).length;
+    rename_of(random, text, &rooms)
+}
+
+fn rename_of(random: &mut Random, text: Vec<u8>, rooms: &[Word]) -> Case {
+    let (room, name) = renaming(random, rooms, &text);
+    let wanted = layout::rename(&text, room, &name, &mut vec![0; LONGEST]).length;
     let out = out(random, wanted as usize);
     let call = Call::LayoutRename { room };
     one(call, [("text", text), ("name", name), ("out", out)])
@@ -306,7 +346,7 @@ fn sight_rename(random: &mut Random) -> Case {
             random.from_to(62, 63) as u32,
             vec![b'n'; 1 + random.under(16)],
         ),
-        false => (room(random, &rooms), typed(random, &rooms)),
+        false => renaming(random, &rooms, &layout),
     };
     let wanted = sight::rename(&layout, &vis, room, &name, &mut vec![0; 66_000]).length;
     let out = out(random, if wanted == 0 { 66_000 } else { wanted as usize });

@@ -7,6 +7,7 @@ pub mod edit_pairs;
 pub mod fields;
 pub mod finish;
 pub mod floors;
+pub mod hooks;
 pub mod journals;
 pub mod model;
 pub mod pair_damage;

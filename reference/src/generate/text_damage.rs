@@ -1,13 +1,17 @@
 //! Damage to valid texts: to words and lines, aimed at the rules 33 to 39, and to bytes for 31 and 32.
 
+use super::hooks;
 use super::random::Random;
 use super::texts::{self, line, Plan, Word};
 
-/// Damages a plan once, or now and then twice.
+/// Damages a plan once, or now and then twice. Where there are hooks, half of the time it is one of them.
 pub fn plan(random: &mut Random, plan: &mut Plan) {
     for _ in 0..random.pick(&[1, 1, 1, 2]) {
         if plan.is_empty() {
             plan.push(vec![texts::name(random)]);
+        }
+        if random.once_in(2) && hooks::damage(random, plan) {
+            continue;
         }
         match random.under(9) {
             0 | 1 => lines(random, plan),

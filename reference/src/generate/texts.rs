@@ -1,5 +1,6 @@
 //! Valid layout and sight texts as lines of words, and the many ways to space them out.
 
+use super::hooks;
 use super::random::Random;
 use crate::text::LONGEST;
 use std::collections::HashSet;
@@ -90,7 +91,7 @@ pub fn count(random: &mut Random, count: usize) -> Word {
 }
 
 /// How many entries a section has: mostly few, now and then as many as the rule allows.
-fn section_size(random: &mut Random) -> usize {
+pub(super) fn section_size(random: &mut Random) -> usize {
     match random.under(12) {
         0 => 64,
         1 => random.under(65),
@@ -100,6 +101,18 @@ fn section_size(random: &mut Random) -> usize {
 
 /// A layout with these rooms and, now and then, its optional sections.
 pub fn layout(random: &mut Random, rooms: &[Word]) -> Plan {
+    let mut plan = without_hooks(random, rooms);
+    match random.under(8) {
+        0 | 1 => (),
+        2 => plan.push(line(&["doorhookcount", random.pick(&["0", "00"])])),
+        _ => hooks::add_section(&mut plan, random, rooms),
+    }
+    plan.push(line(&["donelayout"]));
+    plan
+}
+
+/// A layout with these rooms up to its hooks.
+pub fn without_hooks(random: &mut Random, rooms: &[Word]) -> Plan {
     let mut plan = vec![line(&["beginlayout"])];
     add_section(&mut plan, random, "roomcount", rooms);
     for keyword in ["trackcount", "obstaclecount"] {
@@ -109,11 +122,19 @@ pub fn layout(random: &mut Random, rooms: &[Word]) -> Plan {
             add_section(&mut plan, random, keyword, &entries);
         }
     }
-    if random.once_in(2) {
-        plan.push(line(&["doorhookcount", random.pick(&["0", "00"])]));
-    }
-    plan.push(line(&["donelayout"]));
     plan
+}
+
+/// A layout with some hooks, one of which is right or wrong in the way of this turn. Gives its rooms too.
+pub fn hooked_in_turn(random: &mut Random, turn: usize) -> (Vec<Word>, Plan) {
+    let count = random.pick(&[1, 2, 3, 4, 6, 64]);
+    let rooms = names(random, count);
+    let mut plan = without_hooks(random, &rooms);
+    let count = random.pick(&[2, 3, 4, 6, 63, 64]);
+    hooks::add(&mut plan, random, &rooms, count);
+    hooks::damage_in_turn(random, &mut plan, turn);
+    plan.push(line(&["donelayout"]));
+    (rooms, plan)
 }
 
 fn add_section(plan: &mut Plan, random: &mut Random, keyword: &str, names: &[Word]) {

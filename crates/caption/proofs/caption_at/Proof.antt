@@ -16,7 +16,7 @@ found-in-requires : tie.Need-found-in-requires
 found-in-requires c κs =
     let r = c .before .before .before .before in
     let h = c .before .before .before .if1 .taken in
-    (room-read _ _ (has-it _ _ (r .read .ensures) _ h), name-long _ (named-asked _ (r .read .result .starts) _ _ _ (c .before .line-at .ensures) (c .word .ensures) (rooms-kept _ _ (r .read .ensures) .name _ h)) .1)
+    (room-read _ _ (has-it _ _ (r .read .ensures) _ h), name-long _ (named-asked _ (r .read .result .starts) _ _ _ 0 (c .before .line-at .ensures) (c .word .ensures) (rooms-kept _ _ (r .read .ensures) .name _ h)) .1)
 
 returns : tie.Need-returns
 returns c =
@@ -31,7 +31,7 @@ found-in-requires-2 : tie.Need-found-in-requires-2
 found-in-requires-2 c κs =
     let r = c .before .before .before .before in
     let h = c .before .before .before .if2 .taken in
-    (room-read _ _ (has-it _ _ (r .read2 .ensures) _ h), name-long _ (named-asked _ (r .read2 .result .starts) _ _ _ (c .before .line-at2 .ensures) (c .word2 .ensures) (rooms-kept _ _ (r .read2 .ensures) .name _ h)) .1)
+    (room-read _ _ (has-it _ _ (r .read2 .ensures) _ h), name-long _ (named-asked _ (r .read2 .result .starts) _ _ _ 0 (c .before .line-at2 .ensures) (c .word2 .ensures) (rooms-kept _ _ (r .read2 .ensures) .name _ h)) .1)
 
 returns-2 : tie.Need-returns-2
 returns-2 c =

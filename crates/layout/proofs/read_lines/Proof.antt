@@ -7,7 +7,7 @@ use lib.ListN.{length}
 use Rattle.letters.specs.Class.{isEnd}
 use Rattle.text.proofs.SplitLaws.{piece-within}
 use Rattle.layout.proofs.StepLaws.{slot-inside}
-use Rattle.layout.proofs.ScanLaws.{Reader, reader, kept-rooms, turn-stops, turn-more, ends-early, ends-right}
+use Rattle.layout.proofs.ScanLaws.{Reader, reader, kept-so-far, turn-stops, turn-more, ends-early, ends-right}
 use Rattle.layout.proofs.read_lines.Statement.{statement}
 use Rattle.layout.proofs.read_lines.Tie as tie
 
@@ -24,7 +24,7 @@ slice-aggregate-line-fault : tie.Need-slice-aggregate-line-fault Inv-loop μ-loo
 slice-aggregate-line-fault c = let z = c .before .before in sym (z .loop .inv .sized)
 
 line-fault-requires : tie.Need-line-fault-requires Inv-loop μ-loop
-line-fault-requires c κs = let z = c .before .before in kept-rooms _ _ _ _ _ (z .loop .inv)
+line-fault-requires c κs = let z = c .before .before in kept-so-far _ _ _ _ _ (z .loop .inv)
 
 returns : tie.Need-returns Inv-loop μ-loop
 returns c =

@@ -9,7 +9,7 @@ use Rattle.sightform.proofs.sight_rename.Statement.{statement}
 use Rattle.sightform.proofs.sight_rename.Tie as tie
 
 -- the array has its places
-sized : (c : tie.After-read) → length (c .read .result .starts) ≡ 192
+sized : (c : tie.After-read) → length (c .read .result .starts) ≡ 256
 sized c = search needs
 
 returns : tie.Need-returns

@@ -10,13 +10,13 @@ returns c = named-not _ _ _ (c .if1 .taken)
 same-name-requires : tie.Need-same-name-requires
 same-name-requires c κs =
     let g = c .before .before .before .before .before .before .before in
-    (g .pre .1 .0, named-asked (g .args .s .now) (g .args .starts .now) _ _ (g .args .j) (c .before .line-at .ensures) (c .word .ensures) (g .pre .1 .1))
+    (g .pre .1 .0, named-asked (g .args .s .now) (g .args .starts .now) _ _ (g .args .j) (g .args .k) (c .before .line-at .ensures) (c .word .ensures) (g .pre .1 .1))
 
 returns-2 : tie.Need-returns-2
 returns-2 c =
     let l = c .before .before in
     let g = l .before .before .before .before .before .before in
-    named-by (g .args .j) (g .args .but) (g .args .w .now) (g .args .s .now) (g .args .starts .now) _ _ _ (l .before .before .if1 .left) (l .line-at .ensures) (c .before .word .ensures) (c .same-name .ensures)
+    named-by (g .args .j) (g .args .but) (g .args .k) (g .args .w .now) (g .args .s .now) (g .args .starts .now) _ _ _ (l .before .before .if1 .left) (l .line-at .ensures) (c .before .word .ensures) (c .same-name .ensures)
 
 pub is-named-spec : {M : Type 1} → statement M
 is-named-spec =

@@ -7,11 +7,11 @@ use borrow.Author.Needs.{needs}
 use Rattle.layout.proofs.lines.keep.Statement.{statement}
 use Rattle.layout.proofs.lines.keep.Tie as tie
 
--- an entry's slot is one of the 192
-inside : (c : tie.After-slot) → c .slot .result < 192
+-- an entry's slot is one of the 256
+inside : (c : tie.After-slot) → c .slot .result < 256
 inside c =
     let g = c .before .before .before in
-    let h : slotOf (g .args .st) < 192 = g .pre .1 (omega (arith, c .before .if1 .left)) in
+    let h : slotOf (g .args .st) < 256 = g .pre .1 (omega (arith, c .before .if1 .left)) in
     omega (arith, c .slot .ensures)
 
 returns : tie.Need-returns

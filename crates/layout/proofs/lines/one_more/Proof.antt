@@ -6,9 +6,9 @@ use Rattle.layout.proofs.lines.one_more.Tie as tie
 
 returns : tie.Need-returns
 returns c =
-    let o = c .before in
+    let o = c .before .before in
     let t = o .before in
-    entered-by _ _ _ _ (t .before .one-if .ensures) (t .one-if2 .ensures) (o .one-if3 .ensures)
+    entered-by _ _ _ _ _ (t .before .one-if .ensures) (t .one-if2 .ensures) (o .one-if3 .ensures) (c .before .one-if4 .ensures)
 
 pub one-more-spec : {M : Type 1} → statement M
-one-more-spec = tie.close (tie.spec (search needs) (search needs) (search needs) (search needs) returns)
+one-more-spec = tie.close (tie.spec (search needs) (search needs) (search needs) (search needs) (search needs) returns)

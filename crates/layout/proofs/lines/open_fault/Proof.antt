@@ -22,13 +22,13 @@ returns-4 : tie.Need-returns-4
 returns-4 c =
     let e = c .before .before .before in
     let w = e .before .before in
-    open-counted _ _ _ _ (w .before .words-of .ensures) (w .word-count .ensures) (w .before .before .if1 .left) _ _ true (e .before .if2 .left) (e .if3 .left) (c .before .before .word .ensures) (c .before .count-right .ensures) (c .if4 .taken)
+    open-counted _ _ _ _ (w .before .words-of .ensures) (w .word-count .ensures) (w .before .before .if1 .left) _ _ true (e .before .if2 .left) (e .if3 .left) (c .before .before .word .ensures) (c .before .is-count .ensures) (c .if4 .taken)
 
 returns-5 : tie.Need-returns-5
 returns-5 c =
     let e = c .before .before .before in
     let w = e .before .before in
-    open-counted _ _ _ _ (w .before .words-of .ensures) (w .word-count .ensures) (w .before .before .if1 .left) _ _ false (e .before .if2 .left) (e .if3 .left) (c .before .before .word .ensures) (c .before .count-right .ensures) (c .if4 .left)
+    open-counted _ _ _ _ (w .before .words-of .ensures) (w .word-count .ensures) (w .before .before .if1 .left) _ _ false (e .before .if2 .left) (e .if3 .left) (c .before .before .word .ensures) (c .before .is-count .ensures) (c .if4 .left)
 
 pub open-fault-spec : {M : Type 1} → statement M
 open-fault-spec =

@@ -1,58 +1,55 @@
 -- `layoutform::print::put_entry` meets its contract. Assumes nothing.
 use native.Mathlib.Omega.{arith}
-use Prim.Native.Nat.{_+_, _-_, _≤_}
-use Rattle.printer.proofs.WriteLaws.{wrote-then, wrote-is}
+use Prim.Native.Nat.{_+_, _≤_}
+use Rattle.text.specs.Scan.{words}
+use Rattle.printer.proofs.WriteLaws.{wrote-long}
 use Rattle.letters.proofs.CaseLaws.{length-lowered}
-use Rattle.layoutform.specs.Form.{entryNamed, entryLine}
-use Rattle.layoutform.proofs.PrintLaws.{entry-bytes, coordinate-end}
+use Rattle.layoutform.proofs.PrintLaws.{few-words-of, door-end, numbers-end, entry-wrote}
 use borrow.Author.Needs.{needs}
 use Rattle.layoutform.proofs.print.put_entry.Statement.{statement}
 use Rattle.layoutform.proofs.print.put_entry.Tie as tie
 
--- a name has at most 16 bytes
-far : (c : tie.After-put-lowered) → c .put-lowered .result ≤ c .before .before .before .before .before .args .at + 16
-far c = omega (arith, c .put-lowered .ensures .next, length-lowered (c .before .before .before .before .before .args .w .now), c .before .before .before .before .before .pre)
+-- ---- the calls, each seen from the next, and how far they come
 
-put-coordinate-requires : tie.Need-put-coordinate-requires
-put-coordinate-requires c κs =
-    let there = c .before .before .before in
-    let start = there .before .before .before .before .before in
-    omega (arith, far there, start .pre)
+abbrev start-of : tie.After-put-lowered → tie.Start
+start-of c = c .before .before .before .before .before
 
-put-coordinate-requires-2 : tie.Need-put-coordinate-requires-2
-put-coordinate-requires-2 c κs =
-    let at-put-coordinate = c .before .before .before in
-    let there = at-put-coordinate .before .before .before .before in
-    let start = there .before .before .before .before .before in
-    omega (arith, coordinate-end _ (at-put-coordinate .put-coordinate .ensures), far there, start .pre)
+abbrev name-of : tie.After-put-door → tie.After-put-lowered
+name-of c = c .before .before .before .before
 
-put-coordinate-requires-3 : tie.Need-put-coordinate-requires-3
-put-coordinate-requires-3 c κs =
-    let at-put-coordinate2 = c .before .before .before in
-    let at-put-coordinate = at-put-coordinate2 .before .before .before .before in
-    let there = at-put-coordinate .before .before .before .before in
-    let start = there .before .before .before .before .before in
-    omega (arith, coordinate-end _ (at-put-coordinate2 .put-coordinate2 .ensures), coordinate-end _ (at-put-coordinate .put-coordinate .ensures), far there, start .pre)
+abbrev door-of : tie.After-names-in → tie.After-put-door
+door-of c = c .before .before .before .before
+
+name : (c : tie.After-put-lowered) → c .put-lowered .result ≤ start-of c .args .at + 16
+name c = omega (arith, c .put-lowered .ensures .next, length-lowered (start-of c .args .w .now), start-of c .pre .1 .0)
+
+door : (c : tie.After-put-door) → c .put-door .result ≤ start-of (name-of c) .args .at + 33
+door c = let g = start-of (name-of c) in omega (arith, name (name-of c), door-end (g .args .k) _ (g .pre .1 .1) (c .put-door .ensures))
+
+put-door-requires : tie.Need-put-door-requires
+put-door-requires c κs = let n = c .before .before .before in (omega (arith, name n, start-of n .pre .0), start-of n .pre .1 .1)
+
+put-numbers-requires : tie.Need-put-numbers-requires
+put-numbers-requires c κs =
+    let d = door-of c in
+    let g = start-of (name-of d) in
+    (omega (arith, door d, g .pre .0), few-words-of (g .args .k) _ (g .pre .1 .1))
 
 put-byte-requires : tie.Need-put-byte-requires
 put-byte-requires c κs =
-    let at-put-coordinate3 = c .before .before .before in
-    let at-put-coordinate2 = at-put-coordinate3 .before .before .before .before in
-    let at-put-coordinate = at-put-coordinate2 .before .before .before .before in
-    let there = at-put-coordinate .before .before .before .before in
-    let start = there .before .before .before .before .before in
-    omega (arith, coordinate-end _ (at-put-coordinate3 .put-coordinate3 .ensures), coordinate-end _ (at-put-coordinate2 .put-coordinate2 .ensures), coordinate-end _ (at-put-coordinate .put-coordinate .ensures), far there, start .pre)
+    let n = c .before .before .before in
+    let d = door-of (n .before) in
+    let g = start-of (name-of d) in
+    omega (arith, door d, numbers-end (n .before .names-in .result) (words (g .args .l .now)) (few-words-of (g .args .k) _ (g .pre .1 .1)) (n .put-numbers .ensures), g .pre .0)
 
 returns : tie.Need-returns
-unfolding entryLine entryNamed
 returns c =
-    let at-put-coordinate3 = c .before .before .before .before .before .before in
-    let at-put-coordinate2 = at-put-coordinate3 .before .before .before .before in
-    let at-put-coordinate = at-put-coordinate2 .before .before .before .before in
-    let at-put-lowered = at-put-coordinate .before .before .before .before in
-    wrote-is _ (wrote-then (at-put-lowered .put-lowered .ensures) (wrote-then (at-put-coordinate .put-coordinate .ensures) (wrote-then (at-put-coordinate2 .put-coordinate2 .ensures) (wrote-then (at-put-coordinate3 .put-coordinate3 .ensures) (c .before .before .put-byte .ensures))))) (entry-bytes _ _ _ _)
+    let n = c .before .before .before .before .before .before in
+    let d = door-of (n .before) in
+    let g = start-of (name-of d) in
+    entry-wrote (g .args .k) _ (g .pre .1 .1) (g .args .w .now) (n .before .names-in .ensures) (name-of d .put-lowered .ensures) (d .put-door .ensures) (n .put-numbers .ensures) (c .before .before .put-byte .ensures)
 
 pub put-entry-spec : {M : Type 1} → statement M
 put-entry-spec =
     tie.close
-    (tie.spec (search needs) put-coordinate-requires put-coordinate-requires-2 put-coordinate-requires-3 put-byte-requires (search needs) returns)
+    (tie.spec (search needs) put-door-requires (search needs) put-numbers-requires put-byte-requires (λ c. wrote-long (returns c)) returns)
