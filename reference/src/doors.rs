@@ -30,7 +30,7 @@ pub fn broken(all: &[Done]) -> Vec<String> {
 }
 
 /// The layouts that a call was handed.
-fn layouts(done: &Done) -> Vec<&[u8]> {
+pub fn layouts(done: &Done) -> Vec<&[u8]> {
     let lent: &[usize] = match done.call {
         Call::LayoutRewrite | Call::LayoutRename { .. } => &[0],
         Call::SightRewrite | Call::SightRename { .. } | Call::SightRow { .. } => &[0],

@@ -24,6 +24,10 @@ pub enum Fault {
     BorderLeftOut,
     /// Names that differ in letter case taken for different names.
     CaseCounts,
+    /// Names compared as far as the shorter goes.
+    LengthsNotCompared,
+    /// Names of one length taken for the same if they begin with the same byte.
+    FirstByteAlike,
     /// Work memory left as it was.
     WorkKept,
     /// Work memory of the old size that passes, and so much of it zero on return.
@@ -113,7 +117,7 @@ pub enum Fault {
 }
 
 /// All faults with the names by which they are asked for.
-pub const FAULTS: [(&str, Fault); 52] = [
+pub const FAULTS: [(&str, Fault); 54] = [
     ("minus-zero", Fault::MinusZero),
     ("children-from-one", Fault::ChildrenFromOne),
     ("depth-65", Fault::DepthSixtyFive),
@@ -123,6 +127,8 @@ pub const FAULTS: [(&str, Fault); 52] = [
     ("all-visited", Fault::AllVisited),
     ("border-left-out", Fault::BorderLeftOut),
     ("case-counts", Fault::CaseCounts),
+    ("lengths-not-compared", Fault::LengthsNotCompared),
+    ("first-byte-alike", Fault::FirstByteAlike),
     ("work-kept", Fault::WorkKept),
     ("old-work", Fault::OldWork),
     ("any-partner", Fault::AnyPartner),

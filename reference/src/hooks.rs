@@ -4,7 +4,7 @@ use crate::answer::{refuse, refuse_if, Checked};
 use crate::fault::{planted, Fault};
 use crate::layout::Layout;
 use crate::number::Number;
-use crate::text::{count_on, is_name, lower, Line, Lines};
+use crate::text::{count_on, is_name, lower, same_name, Line, Lines};
 
 /// A hook. Room and door are in lower case; the numbers are x y z, four of orientation and, if typed, five more.
 #[derive(Clone, Debug, PartialEq, Eq)]
@@ -73,7 +73,8 @@ fn is_room(layout: &Layout, typed: &[u8]) -> bool {
 /// Whether an earlier hook has this door. A room of the same name does not count.
 fn stands(rooms: &Layout, earlier: &[Hook], door: &[u8]) -> bool {
     let is_room = planted(Fault::DoorOrRoom) && rooms.room_named(door).is_some();
-    is_room || earlier.iter().any(|hook| hook.door == door)
+    let is_same = same_name();
+    is_room || earlier.iter().any(|hook| is_same(&hook.door, door))
 }
 
 /// The numbers behind room and door, if all of them are numbers.
@@ -109,7 +110,9 @@ pub fn rename(hooks: &mut [Hook], old: &[u8], new: &[u8]) {
         _ if planted(Fault::OneHookRenamed) => 1,
         _ => hooks.len(),
     };
-    for hook in hooks.iter_mut().filter(|hook| hook.room == old).take(most) {
+    let is_same = same_name();
+    let named = hooks.iter_mut().filter(|hook| is_same(&hook.room, old));
+    for hook in named.take(most) {
         hook.room = new.to_vec();
     }
     if planted(Fault::DoorRenamed) {

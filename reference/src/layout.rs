@@ -5,7 +5,7 @@ use crate::fault::{planted, Fault};
 use crate::form;
 use crate::hooks::{self, Hook};
 use crate::number::Number;
-use crate::text::{self, count_on, is_name, lower, Line, Lines};
+use crate::text::{self, count_on, is_name, lower, same_name, Line, Lines};
 
 /// A room, track or obstacle. `start` and `length` say where its name stands in the text.
 #[derive(Clone, Debug, PartialEq, Eq)]
@@ -28,8 +28,10 @@ pub struct Layout {
 impl Layout {
     /// The number of the room of this name, letter case ignored.
     pub fn room_named(&self, name: &[u8]) -> Option<usize> {
-        let name = lower(name);
-        self.rooms.iter().position(|room| room.name == name)
+        let (name, is_same) = (lower(name), same_name());
+        self.rooms
+            .iter()
+            .position(|room| is_same(&room.name, &name))
     }
 }
 
@@ -76,10 +78,12 @@ fn keyword_alone(line: &Line, keyword: &str) -> Checked<()> {
 fn entries(lines: &mut Lines, count_line: &Line, rooms: bool) -> Checked<Vec<Entry>> {
     let count = count_on(count_line)?;
     let mut entries: Vec<Entry> = Vec::with_capacity(count);
+    let is_same = same_name();
     for _ in 0..count {
         let line = lines.wanted()?;
         let entry = entry_on(&line)?;
-        let twice = entries.iter().any(|earlier| earlier.name == entry.name);
+        let is_earlier = |earlier: &Entry| is_same(&earlier.name, &entry.name);
+        let twice = entries.iter().any(is_earlier);
         refuse_if(rooms && twice, 37, line.number)?;
         entries.push(entry);
     }

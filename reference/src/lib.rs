@@ -3,6 +3,7 @@
 //! Only `sorted` is written for speed: its times are what others are compared with.
 
 pub mod answer;
+pub mod beginnings;
 pub mod bench;
 pub mod benches;
 pub mod calls;

@@ -1,6 +1,7 @@
 //! What a comparison tells at its end: how often calls were made, what they answered, and how often cases
 //! were of the kinds that some rule or request is about.
 
+use crate::beginnings;
 use crate::benches;
 use crate::compare::{played, Done};
 use crate::digits;
@@ -41,6 +42,8 @@ pub struct Tally {
     pub digits: digits::Counts,
     /// What layouts with door hooks were like.
     pub doors: doors::Counts,
+    /// How often names that begin alike stood beside each other.
+    pub beginnings: beginnings::Counts,
     pub cases: u64,
     pub different: u64,
 }
@@ -55,6 +58,7 @@ impl Tally {
             Case::One { .. } => {
                 self.digits.add(all);
                 self.doors.add(all);
+                self.beginnings.add(all);
             }
             Case::Session(_) => (),
         }
@@ -120,7 +124,7 @@ impl Tally {
     }
 
     /// Both tables, the roots, the large floors, the pairs of edits, the two benches, the mended floors, the numbers typed,
-    /// the door hooks and the last line.
+    /// the door hooks, the names that begin alike and the last line.
     pub fn print(&self) {
         println!("{:<16}{:>9}", "call", "calls");
         for (call, count) in &self.calls {
@@ -151,6 +155,7 @@ impl Tally {
         println!("{}", self.seams.line());
         println!("{}", self.digits.line());
         println!("{}", self.doors.line());
+        println!("{}", self.beginnings.line());
         println!("{} cases, {} differences", self.cases, self.different);
     }
 }

@@ -144,6 +144,18 @@ pub fn lower(name: &[u8]) -> Vec<u8> {
     }
 }
 
+/// The test whether two names in lower case are the same: all their bytes are, unless a fault is planted. That is looked up
+/// once, not for each pair.
+pub fn same_name() -> impl Fn(&[u8], &[u8]) -> bool {
+    let as_far = planted(Fault::LengthsNotCompared);
+    let by_first = planted(Fault::FirstByteAlike);
+    move |one, other| {
+        one == other
+            || as_far && one.iter().zip(other).all(|(a, b)| a == b)
+            || by_first && one.len() == other.len() && one[0] == other[0]
+    }
+}
+
 /// A count: one or two digits, not over 64.
 pub fn count_of(bytes: &[u8]) -> Option<usize> {
     if !(1..=2).contains(&bytes.len()) {

@@ -87,6 +87,15 @@ fn every_refusal_occurs() {
 }
 
 #[test]
+fn names_that_begin_alike_are_met() {
+    let tally = compare(4_000, 7, [&HONEST, &HONEST], |_| (), |_, _| ());
+    let met = &tally.beginnings;
+    let asked = [met.begun, met.known, met.unknown];
+    let mut each = asked.iter().chain(&met.parted);
+    assert!(each.all(|&times| times >= 20), "{met:?}");
+}
+
+#[test]
 fn trees_hang_from_any_node() {
     let tally = compare(4_000, 5, [&HONEST, &HONEST], |_| (), |_, _| ());
     assert!(tally.with_tree > 400, "{}", tally.with_tree);

@@ -149,6 +149,48 @@ fn refusal_39_unknown_rooms() {
     assert_eq!(sight_verdict("hall 1\ncellar"), (39, 2));
 }
 
+/// A name that another begins with, or that differs in its last byte alone, is another name.
+#[test]
+fn names_that_begin_alike_are_different_names() {
+    let rooms = [
+        "hall",
+        "HALL_2",
+        "Hal",
+        "h",
+        "sixteen_letters_",
+        "sixteen_letters",
+        "sixteen_letters1",
+    ];
+    let lines: String = rooms.iter().map(|room| format!("{room} 0 0 0\n")).collect();
+    let layout = format!(
+        "beginlayout\nroomcount {}\n{lines}donelayout\n",
+        rooms.len()
+    );
+    assert_eq!(layout_verdict(&layout), (0, 0));
+    let layout = layout.as_bytes();
+    for (number, room) in (0..).zip(rooms) {
+        let vis = format!("{} 1\n{}\n", room.to_lowercase(), room.to_uppercase());
+        assert_eq!(sight::row(layout, vis.as_bytes(), number).row, 1 << number);
+        let typed = layout::rename(layout, number, b"Ha", &mut [0; 900]);
+        assert_eq!((typed.number, typed.place), (0, 0), "{room}");
+        let taken = rooms[(number as usize + 1) % rooms.len()].as_bytes();
+        let typed = layout::rename(layout, number, taken, &mut [0; 900]);
+        assert_eq!((typed.number, typed.place), (37, 0), "{room}");
+    }
+    for name in [
+        "ha",
+        "hall_",
+        "hall_22",
+        "hall_3",
+        "sixteen_letter",
+        "sixteen_letters2",
+        "i",
+    ] {
+        let refused = sight::row(layout, format!("hall 1\n{name}").as_bytes(), 0);
+        assert_eq!((refused.number, refused.place), (39, 2), "{name}");
+    }
+}
+
 #[test]
 fn refusal_40_an_output_too_short() {
     let mut out = [0xEE; 10];

@@ -11,13 +11,9 @@ use Rattle.verdict.proofs.Bools.{test, and-true, true-and, and-no}
 use Rattle.letters.specs.Class.{within, classOf, nameByte}
 use Rattle.letters.specs.Case.{lower, lowered}
 
-pub lower-nought : 0 ≡ lower 0
+lower-nought : 0 ≡ lower 0
 unfolding lower
 lower-nought = refl
-
-pub lower-le : (b : ℕ) → b ≤ lower b
-unfolding lower
-lower-le b = test (within 65 90 b) (λ e. rw e (omega arith)) (λ e. rw e (omega arith))
 
 -- a capital letter is none when it has become small
 capital : (b : ℕ) → within 65 90 b ≡ true → (within 97 122 (b + 32) ≡ true) × (within 65 90 (b + 32) ≡ false)

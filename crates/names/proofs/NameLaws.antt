@@ -1,23 +1,20 @@
 -- Names: what stands in one, lower case, and when two are the same. Assumes nothing.
 use mathlib.Core.Path.{_≡_, refl, sym, ap, _∙_}
-use mathlib.Core.Bool.{Bool, true, false, _&&_}
+use mathlib.Core.Bool.{true, false, _&&_}
 use mathlib.Core.List.{List, [], _∷_}
 use Prim.Native.Nat.{ℕ, _+_, _≤_, _<_}
 use native.Mathlib.Numerals.{add-one}
 use native.Mathlib.Omega.{arith}
-use native.Mathlib.Decide.{decLt}
 use lib.Dec.{eqb, leb}
-use lib.ListN.{length, getD, drop, drop-of-length-le, List·getD-eq-default}
-use lib.Seq.{drop-cons, ext-getD}
-use borrow.Author.Tests.{eq-eqb, ne-eqb, eqb-true, leb-true, le-leb}
-use Rattle.verdict.specs.Lowest.{allUnder}
-use Rattle.verdict.proofs.Lowest.{all-true, true-all}
-use Rattle.verdict.proofs.Bools.{clash, test, decided, same-test, and-true, true-and, and-no, and-yes}
-use Rattle.letters.specs.Class.{within, classOf, nameByte}
+use lib.ListN.{length, getD, drop, drop-of-length-le}
+use lib.Seq.{drop-cons}
+use borrow.Author.Tests.{eq-eqb, eqb-true, leb-true, le-leb}
+use Rattle.verdict.proofs.Bools.{clash, test, same-test, and-true}
+use Rattle.letters.specs.Class.{within, nameByte}
 use Rattle.text.specs.Scan.{run}
 use Rattle.names.specs.Name.{same, isName, sameName}
 use Rattle.letters.specs.Case.{lower, lowered}
-use Rattle.letters.proofs.CaseLaws.{lower-le, name-lower, name-raised, length-lowered, lowered-at, lowered-again}
+use Rattle.letters.proofs.CaseLaws.{name-lower, name-raised, length-lowered, lowered-at, lowered-again}
 use Rattle.text.proofs.RunLaws.{run-at, run-of}
 
 -- ---- the same bytes
@@ -116,68 +113,15 @@ same-name-sym a b =
     same-test (same (lowered a) (lowered b)) (same (lowered b) (lowered a))
     (λ e. rw (same-true (lowered a) (lowered b) e) (same-refl (lowered b))) (λ e. rw (same-true (lowered b) (lowered a) e) (same-refl (lowered a)))
 
--- two names agree at a place, where 0 stands past the end
-unfoldable pub agree : List ℕ → List ℕ → ℕ → Bool
-agree a b k = eqb (lower (getD a k 0)) (lower (getD b k 0))
-
-pub agree-at : (a b : List ℕ) (k : ℕ) → agree a b k ≡ true → getD (lowered a) k 0 ≡ getD (lowered b) k 0
-unfolding agree
-agree-at a b k e = rw (lowered-at a k, lowered-at b k) (eqb-true (lower (getD a k 0)) (lower (getD b k 0)) e)
-
--- a name's byte is not 0
-byte-some : (w : List ℕ) → isName w ≡ true → (i : ℕ) → i < length w → getD (lowered w) i 0 ≡ 0 → ⊥
-unfolding nameByte classOf
-byte-some w e i l z =
-    let n : getD w i 0 ≡ 0 = omega (arith, lowered-at w i, lower-le (getD w i 0)) in
-    clash (rw n at (name-clean w e i l)) refl
-
-past : (w : List ℕ) (i : ℕ) → length w ≤ i → getD (lowered w) i 0 ≡ 0
-past w i l = List·getD-eq-default (lowered w) 0 (omega (arith, length-lowered w))
-
--- names that agree at all sixteen places are no longer one than the other
-no-longer : (a b : List ℕ) → isName b ≡ true → ((k : ℕ) → k < 16 → getD (lowered a) k 0 ≡ getD (lowered b) k 0) → length b ≤ length a
-no-longer a b eb f =
-    decided (decLt (length a) (length b))
-    (λ l. absurd (byte-some b eb (length a) l (sym (f (length a) (omega (arith, name-long b eb))) ∙ past a (length a) (omega arith))))
-    (λ l. omega arith)
-
--- all sixteen places decide
-pub sixteen : (a b : List ℕ) → isName a ≡ true → isName b ≡ true → allUnder 16 (agree a b) ≡ sameName a b
+-- for a cursor
+pub same-name-unlike : (a b : List ℕ) → (length a ≡ length b → ⊥) → sameName a b ≡ false
 unfolding sameName
-sixteen a b ea eb =
-    same-test (allUnder 16 (agree a b)) (same (lowered a) (lowered b))
-    (λ e.
-    let f : (k : ℕ) → k < 16 → getD (lowered a) k 0 ≡ getD (lowered b) k 0 = λ k l. agree-at a b k (all-true (agree a b) 16 e k l) in
-    let l = no-longer a b eb f in
-    let m = no-longer b a ea (λ k q. sym (f k q)) in
-    let n = name-long a ea in
-    let s : lowered a ≡ lowered b = ext-getD 0 (lowered a) (lowered b) (omega (arith, length-lowered a, length-lowered b)) (λ i q. f i (omega (arith, length-lowered a))) in
-    rw s (same-refl (lowered b)))
-    (λ e. true-all (agree a b) 16 (λ k l. agrees k (same-true (lowered a) (lowered b) e)))
-  where
-    agrees : (k : ℕ) → lowered a ≡ lowered b → agree a b k ≡ true
-    agrees k s = unfold agree in (eq-eqb (lower (getD a k 0)) (lower (getD b k 0)) (sym (lowered-at a k) ∙ ap (λ (l : List ℕ). getD l k 0) s ∙ lowered-at b k))
+same-name-unlike a b h = same-unlike (lowered a) (lowered b) (λ e. h (sym (length-lowered a) ∙ e ∙ length-lowered b))
 
--- one place more
-pub agree-more : (a b : List ℕ) (i : ℕ) → allUnder (i + 1) (agree a b) ≡ (allUnder i (agree a b) && agree a b i)
-agree-more a b i =
-    same-test (allUnder (i + 1) p) (allUnder i p && p i)
-    (λ e. true-and (allUnder i p) (p i) (true-all p i (λ k l. all-true p (i + 1) e k (omega arith))) (all-true p (i + 1) e i (omega arith)))
-    (λ e.
-    let h = and-true (allUnder i p) (p i) e in
-    true-all p (i + 1) (λ k l. decided (decLt k i) (λ q. all-true p i (h .0) k q) (λ q. let z : k ≡ i = omega arith in rw z (h .1))))
-  where
-    p : ℕ → Bool
-    p = agree a b
+pub same-name-turn : (a b : List ℕ) (i : ℕ) → i < length a → i < length b → sameName (drop i a) (drop i b) ≡ (eqb (lower (getD a i 0)) (lower (getD b i 0)) && sameName (drop (i + 1) a) (drop (i + 1) b))
+unfolding sameName same lowered
+same-name-turn a b i h k = rw (drop-cons a i 0 h, drop-cons b i 0 k, add-one)
 
--- a turn, at the values that the code has in hand
-pub agree-no : (a b : List ℕ) (i x y : ℕ) → x ≡ lower (getD a i 0) → y ≡ lower (getD b i 0) → (x ≡ y → ⊥) → false ≡ allUnder (i + 1) (agree a b)
-unfolding agree
-agree-no a b i x y p q n = sym (agree-more a b i ∙ rw (← p, ← q, ne-eqb x y n) (and-no (allUnder i (agree a b))))
-
-pub agree-yes : (a b : List ℕ) (i x y : ℕ) (t : Bool) → t ≡ allUnder i (agree a b) → x ≡ lower (getD a i 0) → y ≡ lower (getD b i 0) → x ≡ y → t ≡ allUnder (i + 1) (agree a b)
-unfolding agree
-agree-yes a b i x y t h p q e = sym (agree-more a b i ∙ rw (← p, ← q, eq-eqb x y e) (and-yes (allUnder i (agree a b)) ∙ sym h))
-
-pub agree-none : (a b : List ℕ) → true ≡ allUnder 0 (agree a b)
-agree-none a b = sym (true-all (agree a b) 0 (λ k l. absurd (omega arith)))
+pub same-name-end : (a b : List ℕ) (i : ℕ) → length a ≤ i → length b ≤ i → sameName (drop i a) (drop i b) ≡ true
+unfolding sameName same lowered
+same-name-end a b i h k = rw (drop-of-length-le a h, drop-of-length-le b k)

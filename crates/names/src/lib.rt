@@ -4,11 +4,9 @@ use letters::is_within;
 use letters::low;
 ghost use mathlib.Core.Path.{_≡_};
 ghost use mathlib.Core.Bool.{true};
-ghost use lib.ListN.{getD};
 ghost use Rattle.letters.specs.Class.{nameByte};
 ghost use Rattle.text.specs.Scan.{run};
 ghost use Rattle.names.specs.Name.{same, isName, sameName};
-ghost use Rattle.letters.specs.Case.{lower};
 
 // How many bytes at the start may stand in a name.
 fn name_end(w: &[u8]) -> usize
@@ -52,28 +50,21 @@ pub fn same_word(a: &[u8], b: &[u8]) -> bool
     true
 }
 
-// The byte at i in lower case, 0 past the end.
-fn low_at(w: &[u8], i: usize) -> u8
-    ensures { λ r. ⌜ r ≡ lower (getD (now (w .entry)) i 0) ⌝ }
-{
-    if i < w.len() {
-        return low(w[i]);
-    }
-    0
-}
-
-// Two names are the same, letter case ignored: all sixteen places are compared.
+// Two names are the same, letter case ignored: their lengths are compared before any byte, and the first difference ends it.
 pub fn same_name(a: &[u8], b: &[u8]) -> bool
     requires { ⌜ (isName (now a) ≡ true) × (isName (now b) ≡ true) ⌝ }
     ensures { λ r. ⌜ r ≡ sameName (now (a .entry)) (now (b .entry)) ⌝ }
 {
-    let mut alike = true;
+    let length = a.len();
+    if b.len() != length {
+        return false;
+    }
     let mut i = 0;
-    while i < 16 {
-        if low_at(a, i) != low_at(b, i) {
-            alike = false;
+    while i < length {
+        if low(a[i]) != low(b[i]) {
+            return false;
         }
         i += 1;
     }
-    alike
+    true
 }

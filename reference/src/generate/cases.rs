@@ -247,7 +247,7 @@ fn rewrite_of(random: &mut Random, text: Vec<u8>) -> Case {
     one(Call::LayoutRewrite, [("text", text), ("out", out)])
 }
 
-/// A typed name: new, a room's own or another's, or wrong.
+/// A typed name: new, a room's own or another's, one that begins like a room's, or wrong.
 fn typed(random: &mut Random, rooms: &[Word]) -> Word {
     match random.under(6) {
         0 if !rooms.is_empty() => {
@@ -268,6 +268,7 @@ fn typed(random: &mut Random, rooms: &[Word]) -> Word {
             .as_bytes()
             .to_vec(),
         2 => b"exactly_16_chars"[..1 + random.under(16)].to_vec(),
+        3 => texts::akin_to_one(random, rooms),
         _ => texts::name(random),
     }
 }
@@ -379,7 +380,7 @@ fn link_check(random: &mut Random) -> Case {
         let wish = floors::any_wish(random);
         floor = floors::floor(random, wish).in_order();
     }
-    let rooms = texts::names(random, rooms);
+    let rooms = texts::room_names(random, rooms);
     let damaged = random.once_in(6);
     let layout = layout_text(random, &rooms, damaged);
     let work = work(random);

@@ -3,8 +3,6 @@
 
 use super::random::Random;
 use super::texts::{self, recased, Plan, Word};
-use crate::text::LONGEST_NAME;
-use std::collections::HashSet;
 
 /// Adds a section of hooks in these rooms: none, few or 64.
 pub fn add_section(plan: &mut Plan, random: &mut Random, rooms: &[Word]) {
@@ -41,20 +39,13 @@ fn recased_one(random: &mut Random, names: &[Word]) -> Word {
     recased(random, &names[at])
 }
 
-/// Names of doors that differ in any letters; now and then that of a room.
+/// Names of doors that differ in any letters; now and then that of a room, or one that begins like another door's.
 fn doors(random: &mut Random, rooms: &[Word], count: usize) -> Vec<Word> {
-    let mut taken = HashSet::new();
-    let mut doors = Vec::new();
-    while doors.len() < count {
-        let door = match random.once_in(3) {
-            true => recased_one(random, rooms),
-            false => texts::name(random),
-        };
-        if taken.insert(door.to_ascii_lowercase()) {
-            doors.push(door);
-        }
-    }
-    doors
+    texts::differing(count, |doors| match random.under(6) {
+        0 | 1 => recased_one(random, rooms),
+        2 => texts::akin_to_one(random, doors),
+        _ => texts::name(random),
+    })
 }
 
 /// The line of the hooks' count, if there is one.
@@ -224,8 +215,7 @@ fn one_hook(random: &mut Random, plan: &mut Plan, hooks: &[usize], wrong: Wrong)
 fn unknown(random: &mut Random, room: &[u8], door: &[u8]) -> Word {
     match random.under(4) {
         0 => door.to_vec(),
-        1 if room.len() > 1 => room[..room.len() - 1].to_vec(),
-        2 if room.len() < LONGEST_NAME => [room, b"x"].concat(),
+        1 | 2 => texts::akin(random, room),
         _ => b"nobody_knows".to_vec(),
     }
 }

@@ -87,7 +87,7 @@ fn word_of<'a>(random: &mut Random, plan: &'a mut Plan, first: bool) -> Option<&
     }
 }
 
-/// A name that is too long, or holds a byte that names may not: 34; or an unknown one: 39.
+/// A name that is too long, or holds a byte that names may not: 34; or an unknown one, often one that begins alike: 39.
 fn name(random: &mut Random, plan: &mut Plan) {
     let longer = random.pick(&["a_very_long_name1", "a_very_long_name", "nobody_knows"]);
     let byte = random.pick(b".-");
@@ -97,7 +97,7 @@ fn name(random: &mut Random, plan: &mut Plan) {
         match choice {
             0 => word.insert(at.min(word.len()), byte),
             1 => *word = vec![byte],
-            2 => word.push(b'x'),
+            2 => *word = texts::akin(random, word),
             _ => *word = longer.as_bytes().to_vec(),
         }
     }

@@ -2,7 +2,7 @@
 
 use super::hooks;
 use super::random::Random;
-use crate::text::LONGEST;
+use crate::text::{LONGEST, LONGEST_NAME};
 use std::collections::HashSet;
 
 pub type Word = Vec<u8>;
@@ -14,18 +14,59 @@ pub fn line(words: &[&str]) -> Vec<Word> {
     words.iter().map(|word| word.as_bytes().to_vec()).collect()
 }
 
-/// Names that differ even if letter case is ignored.
-pub fn names(random: &mut Random, count: usize) -> Vec<Word> {
+/// Names that differ even if letter case is ignored. `make` is handed those before.
+pub(super) fn differing(count: usize, mut make: impl FnMut(&[Word]) -> Word) -> Vec<Word> {
     let mut taken = HashSet::new();
     let mut names = Vec::new();
     while names.len() < count {
-        let name = name(random);
+        let name = make(&names);
         if taken.insert(name.to_ascii_lowercase()) {
             names.push(name);
         }
     }
     names
 }
+
+/// Such names, of any kind.
+pub fn names(random: &mut Random, count: usize) -> Vec<Word> {
+    differing(count, |_| name(random))
+}
+
+/// The names of so many rooms: half of the time most of them begin like another.
+pub fn room_names(random: &mut Random, count: usize) -> Vec<Word> {
+    let fresh = random.pick(&[1, 4]);
+    differing(count, |names| match random.once_in(fresh) {
+        true => name(random),
+        false => akin_to_one(random, names),
+    })
+}
+
+/// A name that begins like one of these, if there are any.
+pub(super) fn akin_to_one(random: &mut Random, names: &[Word]) -> Word {
+    match names.get(random.under(names.len())) {
+        None => name(random),
+        Some(name) => akin(random, name),
+    }
+}
+
+/// A name that begins like this one, in letters of any case: a part of it, the same with one byte or many behind it, or with
+/// another last byte.
+pub fn akin(random: &mut Random, name: &[u8]) -> Word {
+    let length = name.len();
+    let is_short = length < LONGEST_NAME;
+    let (kept, more) = match random.under(4) {
+        0 if length > 1 => (1 + random.under(length - 1), 0),
+        1 if is_short => (length, 1),
+        2 if is_short => (length, LONGEST_NAME - length),
+        _ => (length.saturating_sub(1), 1),
+    };
+    let mut akin = recased(random, &name[..kept]);
+    akin.extend((0..more).map(|_| random.pick(NAME_BYTES)));
+    akin
+}
+
+/// Bytes of generated names: few, so that names are often nearly the same.
+const NAME_BYTES: &[u8] = b"abcxyzABCXYZ0189_";
 
 /// A name of 1 to 16 letters, digits and underscores; now and then one that is a keyword.
 pub fn name(random: &mut Random) -> Word {
@@ -45,9 +86,7 @@ pub fn name(random: &mut Random) -> Word {
     }
     let longest = random.pick(&[1, 2, 3, 5, 8, 16, 16]);
     let length = random.from_to(1, longest);
-    (0..length)
-        .map(|_| random.pick(b"abcxyzABCXYZ0189_"))
-        .collect()
+    (0..length).map(|_| random.pick(NAME_BYTES)).collect()
 }
 
 /// The same name in letters of any case.
@@ -128,7 +167,7 @@ pub fn without_hooks(random: &mut Random, rooms: &[Word]) -> Plan {
 /// A layout with some hooks, one of which is right or wrong in the way of this turn. Gives its rooms too.
 pub fn hooked_in_turn(random: &mut Random, turn: usize) -> (Vec<Word>, Plan) {
     let count = random.pick(&[1, 2, 3, 4, 6, 64]);
-    let rooms = names(random, count);
+    let rooms = room_names(random, count);
     let mut plan = without_hooks(random, &rooms);
     let count = random.pick(&[2, 3, 4, 6, 63, 64]);
     hooks::add(&mut plan, random, &rooms, count);
@@ -151,7 +190,7 @@ fn add_section(plan: &mut Plan, random: &mut Random, keyword: &str, names: &[Wor
 /// The rooms of some layout.
 pub fn rooms(random: &mut Random) -> Vec<Word> {
     let count = section_size(random);
-    names(random, count)
+    room_names(random, count)
 }
 
 /// A sight text over these rooms: any observers in any order, each with any list.
