@@ -156,7 +156,8 @@ wp_session wp_put_back(uint8_t *floor, size_t floor_length, uint8_t *journal, si
    with the digits typed after its point. Door hooks are kept: a room of the layout, a door, seven numbers or twelve. At
    most 64 hooks, no door twice in any letters (37, by the line), and a room that the layout has (39); a door may have a
    room's name. Renaming a room renames it in its hooks too, and nothing else; a name that only doors have is free. No
-   layout's form is longer than 24,340 bytes. */
+   layout's form is longer than 24,340 bytes. A typed name makes no line: the form has the lines of the plain form and
+   differs from it in those alone that hold the room's name. A name with a line break is no name (34). */
 wp_form wp_layout_rewrite(const uint8_t *text, size_t text_length, uint8_t *out, size_t out_length);
 wp_form wp_layout_rename(const uint8_t *text, size_t text_length, uint32_t room,
                          const uint8_t *name, size_t name_length, uint8_t *out, size_t out_length);
@@ -174,7 +175,10 @@ wp_row wp_sight_row(const uint8_t *layout, size_t layout_length, const uint8_t *
 wp_answer wp_link_check(const uint8_t *bytes, size_t bytes_length, uint8_t *work, size_t work_length,
                         const uint8_t *layout, size_t layout_length);
 
-/* Room's name as typed: a part of the visitor's text, otherwise of the house text; else 41 and the empty start. */
+/* Room's name as typed: a part of the visitor's text, otherwise of the house text; else 41 and the empty start. It is at
+   most 16 bytes long, each a letter, a digit or an underscore. Between two layouts that are alike but for one room's name,
+   there and in its hooks, every other room's caption has the same bytes, wherever they stand. Every link check is the same
+   too, and, with sight texts alike but for that name, every row. */
 wp_caption_at wp_caption(const uint8_t *visitor, size_t visitor_length, const uint8_t *house, size_t house_length,
                          uint32_t room);
 

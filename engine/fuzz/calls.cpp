@@ -2,9 +2,11 @@
 // slices lie and what its numbers are, and then the slices' bytes (seeds.py writes such inputs). After each call the
 // answer and all lent memory are held to what documents 01 and 02 say without a second implementation at hand: refusals
 // change nothing, work memory comes back cleared, forms read back, a room renamed back leaves the layout as it was, a
-// mended floor is accepted and stays as it is, edits are undone to the byte, an undo closes up the journal and a put-back
-// is undo after undo, and the order of two edits counts no more than M-107 lets it.
+// typed name changes no line and no screen but its own (M-110), a mended floor is accepted and stays as it is, edits are
+// undone to the byte, an undo closes up the journal and a put-back is undo after undo, and the order of two edits counts
+// no more than M-107 lets it.
 #include "mending.hpp"
+#include "screens.hpp"
 #include "sessions.hpp"
 
 using namespace fuzz;
@@ -192,6 +194,7 @@ struct Game : Sessions {
         const wp_form answer =
             wp_layout_rename(first.data, first.length, a, third.data, third.length, out.data, out.length);
         formed(answer, 21);
+        require(answer.number != 0 || !breaks_line(view(third)), "a name with a line break is written");
         if (answer.number != 0) return;
         layout_formed(answer);
         require(caption(form(answer), {}, a).name.size() == third.length, "the room does not have the name");
@@ -199,6 +202,11 @@ struct Game : Sessions {
         const TextForm before = layout_rewrite(view(first));
         const TextForm back = layout_rename(form(answer), a, caption(before.text, {}, a).name);
         require(back.answer.number == 0 && back.text == before.text, "renamed back, it is another layout");
+        only_name_differs(before.text, form(answer), caption(before.text, {}, a).name, view(third));
+        for (const std::uint32_t other : {a - 1, a + 1}) {
+            require(caption(before.text, {}, other).name == caption(form(answer), {}, other).name,
+                    "another room's caption differs");
+        }
     }
 
     void sight_written() const {
@@ -218,6 +226,16 @@ struct Game : Sessions {
         const TextForm layout = layout_rename(view(second), a, view(third));
         require(layout.answer.number == 0, "a sight is renamed where its layout is not");
         require(sight_rewrite(layout.text, form(answer)).text == form(answer), "does not read with its layout");
+        // Without the name the form may be too long where with it it is not.
+        const TextForm before = sight_rewrite(view(second), view(first));
+        if (before.answer.number == 0) {
+            only_name_differs(before.text, form(answer), caption(view(second), {}, a).name, view(third));
+        }
+        for (const std::uint32_t room : {a - 1, a, a + 1}) {
+            const wp_row one = wingpollen::sight_row(view(second), view(first), room);
+            const wp_row other = wingpollen::sight_row(layout.text, form(answer), room);
+            require(one.row == other.row && one.seen == other.seen, "a row differs by a name");
+        }
     }
 
     void sight_row() {
@@ -257,6 +275,8 @@ struct Game : Sessions {
         const std::size_t length = answer.house == 1 ? second.length : first.length;
         require(answer.length >= 1 && answer.length <= 16, "a name too long");
         require(answer.start <= length && answer.length <= length - answer.start, "a name outside its text");
+        const std::string_view text = view(answer.house == 1 ? second : first);
+        require(is_clean(text.substr(answer.start, answer.length)), "a caption with other bytes than a name's");
         grade(answer.house, answer.start);
     }
 };

@@ -1,6 +1,6 @@
 //! Runs cases on two sides and compares every answer and every byte of every lent slice. Each side is also
 //! held to what M-100 says of door hooks, M-104 of rewritten layouts, M-107 of the order of two edits, M-108 of runs
-//! of two benches and M-109 of mended floors.
+//! of two benches, M-109 of mended floors and M-110 of texts that are alike but for one room's name.
 
 use crate::answer::Fields;
 use crate::benches;
@@ -9,10 +9,12 @@ use crate::digits;
 use crate::doors;
 use crate::fault::{self, Fault};
 use crate::generate::cases::{case, Call, Case, Lent};
+use crate::generate::screens::Screens;
 use crate::generate::seams::{enough, Mending};
 use crate::generate::sessions::{Edit, Move, Play};
 use crate::journal::{LINK, PAINT};
 use crate::order;
+use crate::screens;
 use crate::seams;
 use crate::tally::Tally;
 
@@ -66,14 +68,16 @@ impl Done {
 
 /// Bytes on either side of a lent slice that no call may touch. Odd, so that slices start anywhere.
 pub const GUARD: usize = 37;
-const GUARD_BYTE: u8 = 0xA5;
+/// What stands there, and in outputs of whose old bytes nothing else is wanted.
+pub const GUARD_BYTE: u8 = 0xA5;
 
-/// Runs a case on one side: one call, a layout's form once more, a mending and what is asked of its result,
-/// the calls of a session, or all that is played with a pair.
+/// Runs a case on one side: one call, a layout's form once more, a mending and what is asked of its result, all calls
+/// with two pairs of texts, the calls of a session, or all that is played with a pair.
 pub fn run(case: &Case, side: &Side) -> Vec<Done> {
     match case {
         Case::One { call, lent } => return run_one(*call, lent, side),
         Case::Mending(mending) => return run_mending(mending, side),
+        Case::Screens(screens) => return run_screens(screens, side),
         Case::Session(_) | Case::Pair(_) => (),
     }
     let plays = case.plays();
@@ -178,6 +182,15 @@ fn run_mending(mending: &Mending, side: &Side) -> Vec<Done> {
     all
 }
 
+/// Makes all calls with two pairs of texts, in their order.
+fn run_screens(screens: &Screens, side: &Side) -> Vec<Done> {
+    let calls = screens.calls();
+    calls
+        .iter()
+        .map(|(call, lent)| run_call(*call, lent, side))
+        .collect()
+}
+
 /// Runs a session: every call goes on with the floor, the journal and f that the last one left.
 fn run_session(play: &Play, side: &Side) -> Vec<Done> {
     let mut lent = vec![
@@ -258,11 +271,12 @@ pub fn played<'a>(plays: &'a [Play], mut all: &'a [Done]) -> Vec<(&'a Play, &'a 
     played
 }
 
-/// The sentences about layouts, pairs, runs and mended floors that one side broke in a case.
+/// The sentences about layouts, texts that are alike, pairs, runs and mended floors that one side broke in a case.
 fn broken(case: &Case, all: &[Done]) -> Vec<String> {
     let mut found = match case {
         Case::Pair(pair) => order::broken(pair, all),
         Case::Mending(mending) => seams::broken(mending, all),
+        Case::Screens(screens) => screens::broken(screens, all),
         Case::One { .. } => [digits::broken(all), doors::broken(all)].concat(),
         Case::Session(_) => Vec::new(),
     };
@@ -272,8 +286,8 @@ fn broken(case: &Case, all: &[Done]) -> Vec<String> {
     found
 }
 
-/// All that is wrong with what both sides did in one case, in words: which sentence about layouts, pairs,
-/// runs or mended floors either of them broke, and where they differ.
+/// All that is wrong with what both sides did in one case, in words: which sentence about layouts, texts
+/// that are alike, pairs, runs or mended floors either of them broke, and where they differ.
 pub fn wrong(case: &Case, sides: [&Side; 2], done: [&[Done]; 2]) -> Vec<String> {
     let mut found = Vec::new();
     for (side, all) in sides.iter().zip(done) {
@@ -289,7 +303,7 @@ pub fn wrong(case: &Case, sides: [&Side; 2], done: [&[Done]; 2]) -> Vec<String> 
 }
 
 /// Runs cases 0 to `cases` - 1 of a seed on both sides. Tells each before it starts, and then each
-/// in which the sides differ or one of them breaks a sentence about layouts, pairs, runs or mended floors.
+/// in which the sides differ or one of them breaks a sentence about layouts, texts, pairs, runs or mended floors.
 pub fn compare(
     cases: u64,
     seed: u64,

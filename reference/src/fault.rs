@@ -114,10 +114,26 @@ pub enum Fault {
     DoorRenamed,
     /// A rename refused because a door has the name.
     RenameAsksDoors,
+    /// A caption one byte longer where the room before it has a long name.
+    CaptionAfterLong,
+    /// A caption of one letter that gives way to the house text's.
+    ShortCaption,
+    /// A row whose marks stand in the order of the rooms' names.
+    RowByName,
+    /// A sight text's form that lists the rooms seen in the order of their names.
+    SeenByName,
+    /// A link check that does not count a room of a door's name.
+    LinksAskDoors,
+    /// A form that goes on in a new line behind a long name.
+    LongNameBroken,
+    /// A typed name that passes with a line break in it.
+    NameWithBreak,
+    /// A typed name that is refused only after the plain form has been written.
+    NameAskedLate,
 }
 
 /// All faults with the names by which they are asked for.
-pub const FAULTS: [(&str, Fault); 54] = [
+pub const FAULTS: [(&str, Fault); 62] = [
     ("minus-zero", Fault::MinusZero),
     ("children-from-one", Fault::ChildrenFromOne),
     ("depth-65", Fault::DepthSixtyFive),
@@ -172,6 +188,14 @@ pub const FAULTS: [(&str, Fault); 54] = [
     ("one-hook-renamed", Fault::OneHookRenamed),
     ("door-renamed", Fault::DoorRenamed),
     ("rename-asks-doors", Fault::RenameAsksDoors),
+    ("caption-after-long", Fault::CaptionAfterLong),
+    ("short-caption", Fault::ShortCaption),
+    ("row-by-name", Fault::RowByName),
+    ("seen-by-name", Fault::SeenByName),
+    ("links-ask-doors", Fault::LinksAskDoors),
+    ("long-name-broken", Fault::LongNameBroken),
+    ("name-with-break", Fault::NameWithBreak),
+    ("name-asked-late", Fault::NameAskedLate),
 ];
 
 thread_local! {

@@ -5,7 +5,7 @@ use crate::fault::{planted, Fault};
 use crate::form;
 use crate::hooks::{self, Hook};
 use crate::number::Number;
-use crate::text::{self, count_on, is_name, lower, same_name, Line, Lines};
+use crate::text::{self, behind, count_on, is_name, lower, same_name, Line, Lines};
 
 /// A room, track or obstacle. `start` and `length` say where its name stands in the text.
 #[derive(Clone, Debug, PartialEq, Eq)]
@@ -123,10 +123,9 @@ fn section(form: &mut Vec<u8>, keyword: &str, entries: &[Entry]) {
     form.extend_from_slice(format!("{keyword} {}\n", entries.len()).as_bytes());
     for entry in entries {
         form.extend_from_slice(&entry.name);
-        for number in entry.numbers {
-            form.push(b' ');
-            form.extend_from_slice(number.written().as_bytes());
-        }
+        form.push(behind(&entry.name));
+        let numbers = entry.numbers.map(Number::written);
+        form.extend_from_slice(numbers.join(" ").as_bytes());
         form.push(b'\n');
     }
 }
@@ -136,7 +135,7 @@ fn section(form: &mut Vec<u8>, keyword: &str, entries: &[Entry]) {
 pub fn renamed(mut layout: Layout, room: u32, typed: &[u8]) -> Checked<Layout> {
     let number = room as usize;
     refuse_if(number >= layout.rooms.len(), 21, number)?;
-    refuse_if(!is_name(typed), 34, 0)?;
+    refuse_if(!may_be_typed(typed), 34, 0)?;
     let holder = layout.room_named(typed);
     refuse_if(holder.is_some_and(|other| other != number), 37, 0)?;
     let new = lower(typed);
@@ -145,6 +144,19 @@ pub fn renamed(mut layout: Layout, room: u32, typed: &[u8]) -> Checked<Layout> {
     let old = std::mem::replace(&mut layout.rooms[number].name, new.clone());
     hooks::rename(&mut layout.hooks, &old, &new);
     Ok(layout)
+}
+
+/// Whether a name is right, or passes for it by a fault.
+fn may_be_typed(typed: &[u8]) -> bool {
+    let without_breaks = || -> Vec<u8> {
+        let is_break = |byte: &u8| b"\r\n".contains(byte);
+        typed
+            .iter()
+            .copied()
+            .filter(|byte| !is_break(byte))
+            .collect()
+    };
+    is_name(typed) || planted(Fault::NameWithBreak) && is_name(&without_breaks())
 }
 
 /// Rule 40 for a text: its form is over 65,536 bytes, or the output is shorter than it.
@@ -161,6 +173,9 @@ pub fn rewrite(text: &[u8], out: &mut [u8]) -> Form {
 
 /// Rewrites a layout with room `room` renamed.
 pub fn rename(text: &[u8], room: u32, name: &[u8], out: &mut [u8]) -> Form {
+    if planted(Fault::NameAskedLate) && !is_name(name) {
+        rewrite(text, out);
+    }
     let written = read(text)
         .and_then(|layout| renamed(layout, room, name))
         .and_then(|layout| deliver(&fixed(&layout), out));

@@ -24,6 +24,7 @@ pub mod mend;
 pub mod number;
 pub mod order;
 pub mod query;
+pub mod screens;
 pub mod seams;
 pub mod sight;
 pub mod sorted;

@@ -1,9 +1,10 @@
 //! Sight text (VIS): which rooms of a layout each room sees. Reading, rows, the fixed form, renaming.
 
 use crate::answer::{refuse, refuse_if, Checked, Form, Row};
+use crate::fault::{planted, Fault};
 use crate::form;
-use crate::layout::{self, Layout};
-use crate::text::{count_on, is_name, Line, Lines};
+use crate::layout::{self, Entry, Layout};
+use crate::text::{behind, count_on, is_name, Line, Lines};
 
 /// Rules 31 to 39 of a VIS text. Gives each room's row: mark j of row i is set if room i sees room j.
 /// A room that is no observer sees none.
@@ -47,16 +48,41 @@ pub fn fixed(layout: &Layout, rows: &[u64]) -> Vec<u8> {
     let mut form = Vec::new();
     for (room, row) in layout.rooms.iter().zip(rows) {
         form.extend_from_slice(&room.name);
-        form.extend_from_slice(format!(" {}\n", row.count_ones()).as_bytes());
-        for (number, seen) in layout.rooms.iter().enumerate() {
-            if row >> number & 1 == 1 {
-                form.extend_from_slice(b"  ");
-                form.extend_from_slice(&seen.name);
-                form.push(b'\n');
-            }
+        form.push(behind(&room.name));
+        form.extend_from_slice(format!("{}\n", row.count_ones()).as_bytes());
+        for seen in seen_in_order(layout, *row) {
+            form.extend_from_slice(b"  ");
+            form.extend_from_slice(&seen.name);
+            form.push(b'\n');
         }
     }
     form
+}
+
+/// The rooms that a row has marks for, in the order in which they are listed.
+fn seen_in_order(layout: &Layout, row: u64) -> Vec<&Entry> {
+    let all = layout.rooms.iter().enumerate();
+    let mut seen: Vec<&Entry> = all
+        .filter(|(number, _)| row >> number & 1 == 1)
+        .map(|(_, room)| room)
+        .collect();
+    if planted(Fault::SeenByName) {
+        seen.sort_by_key(|room| &room.name);
+    }
+    seen
+}
+
+/// A row as it is answered: each room's mark at its number, or by a fault at its place among the names.
+fn answered(layout: &Layout, row: u64) -> u64 {
+    if !planted(Fault::RowByName) {
+        return row;
+    }
+    let place = |room: &Entry| {
+        let before = layout.rooms.iter().filter(|other| other.name < room.name);
+        before.count()
+    };
+    let seen = seen_in_order(layout, row);
+    seen.iter().fold(0, |marks, room| marks | 1 << place(room))
 }
 
 /// Rewrites a VIS text in its fixed form.
@@ -77,8 +103,9 @@ pub fn rename(layout: &[u8], vis: &[u8], room: u32, name: &[u8], out: &mut [u8])
 /// A room's row and how many rooms it sees; both are 0 on refusal and for no room.
 pub fn row(layout: &[u8], vis: &[u8], room: u32) -> Row {
     match read_both(layout, vis) {
-        Ok((_, rows)) => {
+        Ok((layout, rows)) => {
             let row = rows.get(room as usize).copied().unwrap_or(0);
+            let row = answered(&layout, row);
             Row {
                 number: 0,
                 place: 0,

@@ -10,6 +10,7 @@ use crate::floor::tables::{Table, FIELDS, ROOT_FIELD};
 use crate::generate::cases::Case;
 use crate::generate::damage::LARGE;
 use crate::order;
+use crate::screens;
 use crate::seams;
 use crate::words::word_at;
 use std::collections::{BTreeMap, BTreeSet};
@@ -44,6 +45,8 @@ pub struct Tally {
     pub doors: doors::Counts,
     /// How often names that begin alike stood beside each other.
     pub beginnings: beginnings::Counts,
+    /// What pairs of texts were like that differ in one room's name.
+    pub screens: screens::Counts,
     pub cases: u64,
     pub different: u64,
 }
@@ -55,6 +58,7 @@ impl Tally {
         match case {
             Case::Pair(pair) => self.pairs.add(pair, all),
             Case::Mending(mending) => self.seams.add(mending, all),
+            Case::Screens(screens) => self.screens.add(screens, all),
             Case::One { .. } => {
                 self.digits.add(all);
                 self.doors.add(all);
@@ -124,7 +128,7 @@ impl Tally {
     }
 
     /// Both tables, the roots, the large floors, the pairs of edits, the two benches, the mended floors, the numbers typed,
-    /// the door hooks, the names that begin alike and the last line.
+    /// the door hooks, the names that begin alike, the texts that differ in one name and the last line.
     pub fn print(&self) {
         println!("{:<16}{:>9}", "call", "calls");
         for (call, count) in &self.calls {
@@ -156,6 +160,7 @@ impl Tally {
         println!("{}", self.digits.line());
         println!("{}", self.doors.line());
         println!("{}", self.beginnings.line());
+        println!("{}", self.screens.line());
         println!("{} cases, {} differences", self.cases, self.different);
     }
 }

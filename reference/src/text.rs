@@ -136,6 +136,19 @@ pub fn is_name(bytes: &[u8]) -> bool {
     (1..=LONGEST_NAME).contains(&bytes.len()) && bytes.iter().all(allowed)
 }
 
+/// Whether faults that are planted take a name for a long one.
+pub fn is_long(name: &[u8]) -> bool {
+    name.len() > LONGEST_NAME / 2
+}
+
+/// What stands behind a name in a form: a blank, unless a fault is planted.
+pub fn behind(name: &[u8]) -> u8 {
+    match planted(Fault::LongNameBroken) && is_long(name) {
+        true => b'\n',
+        false => b' ',
+    }
+}
+
 /// The name that is compared and written: in lower case.
 pub fn lower(name: &[u8]) -> Vec<u8> {
     match planted(Fault::CaseCounts) {

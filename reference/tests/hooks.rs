@@ -222,7 +222,7 @@ fn other_calls_read_layouts_with_hooks() {
 
 #[test]
 fn hooks_of_every_kind_occur() {
-    let doors = compare(12_000, 7, [&HONEST, &HONEST], |_| (), |_, _| ()).doors;
+    let doors = compare(14_000, 7, [&HONEST, &HONEST], |_| (), |_, _| ()).doors;
     assert_eq!(doors.read.len(), 7, "{doors:?}");
     assert!(doors.read.values().all(|&count| count >= 40), "{doors:?}");
     assert!(doors.full >= 20 && doors.of_both >= 100, "{doors:?}");

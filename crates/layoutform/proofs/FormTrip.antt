@@ -58,7 +58,7 @@ plain-last : Plain donelayout
 unfolding donelayout isName nameByte classOf run
 plain-last = name-plain _ refl
 
-form-plain : (p : LayoutParts) → GoodParts p → AllLines (form p)
+pub form-plain : (p : LayoutParts) → GoodParts p → AllLines (form p)
 unfolding form
 form-plain p g = (
   (plain-first, tt),

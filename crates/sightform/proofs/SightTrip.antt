@@ -54,20 +54,20 @@ module _ (P : List ℕ → Type 0) (head : (w : Word) (n : ℕ) → isName w ≡
       rw (map-append seenLine (seenTo ms row j) (cond (sees row j) (getD ms j [] ∷ []) []))
       (each-append P (map seenLine (seenTo ms row j)) _ (each-seen row j (omega arith)) (each-piece (sees row j) (getD ms j []) (named j l)))
 
-  each-line : (rows : List ℕ) (k : ℕ) → k ≤ length ms → Each P (linesTo ms rows k)
+  pub each-line : (rows : List ℕ) (k : ℕ) → k ≤ length ms → Each P (linesTo ms rows k)
   unfolding linesTo roomLines
   each-line rows zero l = tt
   each-line rows (suc k) l =
       each-append P (linesTo ms rows k) (roomLines ms k (getD rows k 0)) (each-line rows k (omega arith))
       (head (getD ms k []) (ones (getD rows k 0)) (named k l), each-seen (getD rows k 0) (length ms) (omega arith))
 
-head-inline : (w : Word) (n : ℕ) → isName w ≡ true → All (apart isEnd) (spaced (w ∷ plain n ∷ []))
+pub head-inline : (w : Word) (n : ℕ) → isName w ≡ true → All (apart isEnd) (spaced (w ∷ plain n ∷ []))
 head-inline w n e = inline-spaced (w ∷ plain n ∷ []) (name-plain w e, (count-plain n, tt))
 
 head-calm : (w : Word) (n : ℕ) → isName w ≡ true → All calm (spaced (w ∷ plain n ∷ []))
 head-calm w n e = calm-spaced (w ∷ plain n ∷ []) (name-plain w e, (count-plain n, tt))
 
-seen-inline : (w : Word) → isName w ≡ true → All (apart isEnd) (seenLine w)
+pub seen-inline : (w : Word) → isName w ≡ true → All (apart isEnd) (seenLine w)
 unfolding seenLine
 seen-inline w e = inline-space (32 ∷ w) (inline-space w (plain-inline w (name-plain w e)))
 

@@ -6,6 +6,7 @@ use reference::calls::{OTHER, REFERENCE};
 use reference::compare::{compare, run, wrong, Done, Side};
 use reference::fault::{self, Fault, FAULTS};
 use reference::generate::cases::{case, Case};
+use reference::generate::screens::Screens;
 use std::process::ExitCode;
 
 /// No more different cases than this are shown.
@@ -113,11 +114,13 @@ fn show(asked: &Asked, sides: [&Side; 2]) -> bool {
     !found.is_empty()
 }
 
-/// Shows all that a case hands in, bytes that are no plain letters as \x and two digits.
+/// Shows bytes, those that are no plain letters as \x and two digits.
+fn bytes(name: &str, bytes: &[u8]) {
+    println!("{name}, {} bytes: {}", bytes.len(), bytes.escape_ascii());
+}
+
+/// Shows all that a case hands in.
 fn handed_in(case: &Case) {
-    let bytes = |name: &str, bytes: &[u8]| {
-        println!("{name}, {} bytes: {}", bytes.len(), bytes.escape_ascii());
-    };
     match case {
         Case::One { call, lent } => {
             println!("{call:?}");
@@ -129,6 +132,7 @@ fn handed_in(case: &Case) {
             bytes("list", &mending.list);
             println!("work, {} bytes", mending.work.len());
         }
+        Case::Screens(screens) => handed_in_twice(screens),
         Case::Session(play) => {
             bytes("floor", &play.floor);
             bytes("journal", &play.journal);
@@ -146,6 +150,23 @@ fn handed_in(case: &Case) {
         }
     }
     println!();
+}
+
+/// Shows two pairs of texts and what is handed in beside either of them.
+fn handed_in_twice(screens: &Screens) {
+    for pair in 0..2 {
+        bytes("layout", &screens.layouts[pair]);
+        bytes("vis", &screens.sights[pair]);
+        bytes("name", &screens.names[pair]);
+    }
+    bytes("house", &screens.house);
+    bytes("floor", &screens.floor);
+    println!("work, {} bytes", screens.work.len());
+    println!("room {} of {}", screens.room, screens.rooms);
+    println!("asked for {:?}", screens.asked);
+    bytes("typed", &screens.typed);
+    bytes("typed", &screens.with_break);
+    println!("outputs {:?}, renamed {:?}", screens.plain, screens.renamed);
 }
 
 fn fields(done: &Done) -> String {

@@ -1,7 +1,9 @@
-//! One case of a comparison: a call with all that is lent to it, a floor mended, a session of calls, or a pair of edits.
+//! One case of a comparison: a call with all that is lent to it, a floor mended, two pairs of texts, a session of calls, or a
+//! pair of edits.
 
 use super::edit_pairs::{self, Pair};
 use super::random::Random;
+use super::screens::{self, Screens};
 use super::seams::{self, Mending};
 use super::sessions::{self, Edit, Play};
 use super::texts::{self, Word};
@@ -77,11 +79,13 @@ impl Call {
 /// A lent slice and what it is called.
 pub type Lent = (&'static str, Vec<u8>);
 
-/// One call with all its slices, in the order of the exported call, a floor mended, a session, or a pair of edits.
+/// One call with all its slices, in the order of the exported call, a floor mended, two pairs of texts that are alike but for
+/// one name, a session, or a pair of edits.
 #[derive(Clone, Debug)]
 pub enum Case {
     One { call: Call, lent: Vec<Lent> },
     Mending(Mending),
+    Screens(Box<Screens>),
     Session(Play),
     Pair(Pair),
 }
@@ -90,7 +94,7 @@ impl Case {
     /// The sessions that are played: none, one, or all that a pair asks for.
     pub fn plays(&self) -> Vec<Play> {
         match self {
-            Case::One { .. } | Case::Mending(_) => Vec::new(),
+            Case::One { .. } | Case::Mending(_) | Case::Screens(_) => Vec::new(),
             Case::Session(play) => vec![play.clone()],
             Case::Pair(pair) => pair.plays(),
         }
@@ -105,7 +109,7 @@ fn one<const N: usize>(call: Call, lent: [Lent; N]) -> Case {
 }
 
 /// One case in so many lends a small floor's outputs at every length in turn, and another one has a hook that is wrong in
-/// every way in turn.
+/// every way in turn. One in twice as many has two pairs of texts that are alike.
 pub const TURN: u64 = 20;
 
 /// Case number `number` of the run with this seed.
@@ -117,6 +121,9 @@ pub fn case(seed: u64, number: u64) -> Case {
     }
     if number % TURN == TURN / 2 {
         return hooked_in_turn(random, (number / TURN) as usize);
+    }
+    if number % (2 * TURN) == TURN / 4 {
+        return Case::Screens(Box::new(screens::screens(random)));
     }
     match random.under(59) {
         0..=11 => read(random),
@@ -215,7 +222,7 @@ fn text_of(random: &mut Random, mut plan: texts::Plan, damaged: bool) -> Vec<u8>
     text
 }
 
-fn layout_text(random: &mut Random, rooms: &[Word], damaged: bool) -> Vec<u8> {
+pub(super) fn layout_text(random: &mut Random, rooms: &[Word], damaged: bool) -> Vec<u8> {
     if damaged && random.once_in(40) {
         let length = random.under(60);
         return random.bytes(length);
@@ -248,7 +255,7 @@ fn rewrite_of(random: &mut Random, text: Vec<u8>) -> Case {
 }
 
 /// A typed name: new, a room's own or another's, one that begins like a room's, or wrong.
-fn typed(random: &mut Random, rooms: &[Word]) -> Word {
+pub(super) fn typed(random: &mut Random, rooms: &[Word]) -> Word {
     match random.under(6) {
         0 if !rooms.is_empty() => {
             let name = rooms[random.under(rooms.len())].clone();

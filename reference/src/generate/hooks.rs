@@ -34,7 +34,7 @@ fn hook(random: &mut Random, room: Word, door: Word, numbers: usize) -> Vec<Word
 }
 
 /// One of these names, in letters of any case.
-fn recased_one(random: &mut Random, names: &[Word]) -> Word {
+pub(super) fn recased_one(random: &mut Random, names: &[Word]) -> Word {
     let at = random.under(names.len());
     recased(random, &names[at])
 }

@@ -1,6 +1,7 @@
-//! Seeded cases: valid floors and texts, damaged ones aimed at every refusal, floors with split seams, sessions of two
-//! benches, pairs of edits and queries.
+//! Seeded cases: valid floors and texts, damaged ones aimed at every refusal, texts alike but for one name, floors with
+//! split seams, sessions of two benches, pairs of edits and queries.
 
+pub mod alike;
 pub mod cases;
 pub mod damage;
 pub mod edit_pairs;
@@ -14,6 +15,7 @@ pub mod pair_damage;
 pub mod queries;
 pub mod random;
 pub mod runs;
+pub mod screens;
 pub mod seams;
 pub mod sessions;
 pub mod shapes;

@@ -176,7 +176,8 @@ pub fn hooked_in_turn(random: &mut Random, turn: usize) -> (Vec<Word>, Plan) {
     (rooms, plan)
 }
 
-fn add_section(plan: &mut Plan, random: &mut Random, keyword: &str, names: &[Word]) {
+/// Adds a section of these entries, each with any numbers.
+pub(super) fn add_section(plan: &mut Plan, random: &mut Random, keyword: &str, names: &[Word]) {
     plan.push(vec![
         keyword.as_bytes().to_vec(),
         count(random, names.len()),

@@ -1,0 +1,16 @@
+pub mod NameLaws
+pub mod ReadingLaws
+pub mod LineLaws
+pub mod Rows
+pub mod Captions
+pub mod Links
+pub mod LayoutForms
+pub mod SightLines
+pub mod SightForms
+pub mod Outputs
+pub mod Screens
+pub mod TypedName
+pub mod Breaks
+pub mod WordForWord
+pub mod Likeness
+pub mod Example
