@@ -34,9 +34,9 @@
 #include <stdint.h>
 
 /* Work memory that the calls over a floor ask for; what is always enough for a mended floor and for its list, whatever
-   the floor (the largest tables that are accepted; every corner changed and every link lost); bytes of a journal's
-   record, the most records kept, and how many benches share them; the longest text; how many rooms a layout has at
-   most. */
+   the floor (the largest tables that are accepted; every corner changed and every link lost), the first of them for a
+   floor with its tree too, since no floor's fixed form is longer; bytes of a journal's record, the most records kept,
+   and how many benches share them; the longest text; how many rooms a layout has at most. */
 #define WP_WORK 65536u
 #define WP_MENDED 737372u
 #define WP_LIST 270336u
@@ -66,7 +66,7 @@ typedef struct wp_floor {
     uint32_t perimeters;
 } wp_floor;
 
-/* The answer of rewriting: how many bytes of the output are the form, 0 on refusal. */
+/* The answer of rewriting, and of giving a floor its tree: how many bytes of the output are the form, 0 on refusal. */
 typedef struct wp_form {
     uint32_t number;
     uint32_t place;
@@ -133,6 +133,18 @@ wp_point wp_query(const uint8_t *bytes, size_t bytes_length, uint8_t *work, size
    list is too short. */
 wp_mended wp_mend(const uint8_t *bytes, size_t bytes_length, uint8_t *work, size_t work_length,
                   uint8_t *out, size_t out_length, uint8_t *list, size_t list_length);
+
+/* A floor without nodes given its tree. Faces stand in it in number order: a range of them is cut in half, the lower half,
+   rounded down, on the left, and one face is a leaf; nodes are numbered parent, left subtree, right subtree. Boxes are as
+   tight as can be and have no -0. A plane is 1, 2 or 3, the axis of the box's longest side by float subtraction, the first
+   on a tie; an infinite side is longest. The unknown number is 4 in every node; the root is 0, whatever was handed in.
+   All else stays. The floor with its tree is written to out, in the fixed form; it is accepted, and no leaf is more than
+   12 steps down. A floor without faces gets no nodes. The refusals in their order: 20, 1 to 10, 49 (place 100) if the floor
+   has nodes, 15 to 19, and 40 if out is too short; 11 to 14 are not asked. Nodes that are there are read by 4 to 7 before
+   49 refuses them; whether they are right is not asked. So the call refuses its own result with 49, but for one without
+   faces, which it writes again as it is. */
+wp_form wp_tree(const uint8_t *bytes, size_t bytes_length, uint8_t *work, size_t work_length,
+                uint8_t *out, size_t out_length);
 
 /* Edits by bench 0 or 1, each of which may hold half of the records that fit into the journal. A nudge's place is 0 to
    11, one of the floats of the use positions; its step is in sixty-fourths. Two edits, of one bench or of both, that

@@ -1,6 +1,6 @@
-// wingpollen.hpp: the library for C++17 programs: the refusals with words for volunteers, texts, floors and mended
-// floors as values, SharedFloor, one floor and one journal for two benches, and Visit, one visitor at one of them; both
-// put back at last.
+// wingpollen.hpp: the library for C++17 programs: the refusals with words for volunteers, texts, floors, mended floors
+// and floors given their trees as values, SharedFloor, one floor and one journal for two benches, and Visit, one visitor
+// at one of them; both put back at last.
 //
 // The engine's one duty (wingpollen.h) is kept here by ownership: whatever a call may write is memory that belongs to
 // the SharedFloor, or is made for that one call, and none of it can be reached from outside except to be read between
@@ -120,6 +120,7 @@ enum class Refusal : std::uint32_t {
     link_nowhere = 42,
     blocked = 43,
     bench = 45,
+    has_tree = 49,
 };
 
 // A short sentence for the volunteer at the bench.
@@ -170,6 +171,7 @@ constexpr std::string_view words(Refusal refusal) noexcept {
         case Refusal::link_nowhere: return "An edge leads to a room that the layout does not have.";
         case Refusal::blocked: return "The other visitor has changed the same place since, and has to undo that first.";
         case Refusal::bench: return "There is no such bench: one is 0, the other is 1.";
+        case Refusal::has_tree: return "The floor has a search tree already.";
     }
     return "The library answered a number that is no refusal.";
 }
@@ -185,7 +187,8 @@ constexpr std::string_view place_words(Refusal refusal) noexcept {
         case Refusal::table_outside:
         case Refusal::tables_share:
         case Refusal::not_finite:
-        case Refusal::node_count: return "byte";
+        case Refusal::node_count:
+        case Refusal::has_tree: return "byte";
         case Refusal::corner:
         case Refusal::material:
         case Refusal::walkable_first: return "face";
@@ -328,6 +331,17 @@ inline MendedFloor mend(Bytes floor) {
         }
     }
     return mended;
+}
+
+// Gives a floor without nodes its tree, before anyone sits down at it. The floor's bytes stay what they are. What is
+// enough for a mended floor is enough for this one too.
+inline FloorForm plant(Bytes floor) {
+    FloorForm planted{{}, std::vector<std::uint8_t>(WP_MENDED)};
+    std::vector<std::uint8_t> work(WP_WORK);
+    planted.answer = wp_tree(inside::to_read(floor), floor.length, work.data(), work.size(), planted.bytes.data(),
+                             planted.bytes.size());
+    planted.bytes.resize(planted.answer.length);
+    return planted;
 }
 
 // Rooms, tracks, obstacles and door hooks, as wingpollen.h has them.

@@ -16,6 +16,8 @@
 //     school FLOOR NAME     a floor as a school sends it, named NAME: every face of FLOOR has corners of its own and no
 //                           neighbour, and its sides lead to the room of its number
 //     mend FLOOR NAME       a floor's split seams are mended; what comes of it is named NAME, and its list is read out
+//     club FLOOR NAME       a floor as the modelling club sends it, named NAME: all of FLOOR but its nodes
+//     plant FLOOR NAME      a floor without nodes gets its tree; what comes of it is named NAME
 //     house FILE            the house's layout, for captions and the link check
 //     plan FILE             the visitor's layout        sight FILE   what its rooms see
 //     show                  both of them in fixed form
@@ -28,7 +30,7 @@
 // What is done from sit to leave is done at a bench: `bench 1 undo` is bench 1's, and `undo` alone is bench 0's.
 // The floors are kept for the whole morning: the next visitor finds what the last one left. The morning fails (1) if
 // any floor is not what it was at the start, byte for byte; a script that cannot be played ends it at once (2).
-#include "../wingpollen.hpp"
+#include "made.hpp"
 
 #include <cstdlib>
 #include <fstream>
@@ -40,79 +42,17 @@
 #include <optional>
 #include <sstream>
 
+using namespace example;
 using namespace wingpollen;
 
 namespace {
 
 using Words = std::vector<std::string>;
 
-// Why the script cannot go on. Not an answer of the library: a mistake in the script or a missing file.
-[[noreturn]] void give_up(const std::string& why) {
-    std::cout << std::flush;
-    std::cerr << "morning: " << why << '\n';
-    std::exit(2);
-}
-
 std::string contents(const std::string& path) {
     std::ifstream file(path, std::ios::binary);
     if (!file) give_up("cannot read " + path);
     return {std::istreambuf_iterator<char>(file), {}};
-}
-
-using Owned = std::vector<std::uint8_t>;
-Owned owned(Bytes bytes) { return {bytes.data, bytes.data + bytes.length}; }
-
-// A floor's numbers, of four bytes each.
-std::uint32_t word_at(const Owned& bytes, std::size_t at) {
-    if (at + 4 > bytes.size()) give_up("no floor to make another of");
-    std::uint32_t word = 0;
-    for (std::size_t i = 0; i < 4; ++i) word |= static_cast<std::uint32_t>(bytes[at + i]) << 8 * i;
-    return word;
-}
-void put_word(Owned& bytes, std::size_t at, std::uint32_t word) {
-    for (std::size_t i = 0; i < 4; ++i) bytes[at + i] = static_cast<std::uint8_t>(word >> 8 * i);
-}
-
-// A floor that is put together from another one, table after table behind the header.
-struct Made {
-    const Owned& old;
-    Owned bytes{old.begin(), old.begin() + 136};
-
-    // The table of this offset field begins here.
-    void begin(std::size_t field) { put_word(bytes, field, static_cast<std::uint32_t>(bytes.size())); }
-    void add(std::uint32_t word) {
-        bytes.resize(bytes.size() + 4);
-        put_word(bytes, bytes.size() - 4, word);
-    }
-    // Word i of the old table of this offset field, and the whole table, of so many words.
-    std::uint32_t word(std::size_t field, std::uint32_t i) const { return word_at(old, word_at(old, field) + 4 * i); }
-    void copy(std::size_t field, std::uint32_t words) {
-        begin(field);
-        for (std::uint32_t i = 0; i < words; ++i) add(word(field, i));
-    }
-};
-
-// A floor as a school sends it: the same faces at the same places under the same tree, but each with corners of its
-// own. Its lists are right as it stands: every walkable face is a loop by itself.
-Owned school_floor(const Owned& old) {
-    if (old.size() < 136) give_up("no floor to make another of");
-    const std::uint32_t faces = word_at(old, 80), nodes = word_at(old, 100), walkable = word_at(old, 112);
-    Made made{old};
-    made.begin(76);
-    for (std::uint32_t corner = 0; corner < 3 * faces; ++corner) {
-        for (std::uint32_t i = 0; i < 3; ++i) made.add(made.word(76, 3 * made.word(84, corner) + i));
-    }
-    made.begin(84);
-    for (std::uint32_t corner = 0; corner < 3 * faces; ++corner) made.add(corner);
-    made.copy(88, faces), made.copy(92, 3 * faces), made.copy(96, faces), made.copy(104, 11 * nodes);
-    made.begin(116);
-    for (std::uint32_t side = 0; side < 3 * walkable; ++side) made.add(UINT32_MAX);
-    made.begin(124);
-    for (std::uint32_t side = 0; side < 3 * walkable; ++side) made.add(side), made.add(side / 3);
-    made.begin(132);
-    for (std::uint32_t face = 0; face < walkable; ++face) made.add(3 * face + 3);
-    put_word(made.bytes, 72, 3 * faces), put_word(made.bytes, 120, 3 * walkable), put_word(made.bytes, 128, walkable);
-    return std::move(made.bytes);
 }
 
 // A number of the script. The calls take 32 bits, of either sign, and check the rest themselves.
@@ -219,6 +159,8 @@ private:
             {"rewrite", {0, 0, N::floor, [](M& m, const W&) { m.rewrite(); }}},
             {"school", {2, 2, N::nothing, [](M& m, const W& w) { m.school(w[1], w[2]); }}},
             {"mend", {2, 2, N::nothing, [](M& m, const W& w) { m.mended(w[1], w[2]); }}},
+            {"club", {2, 2, N::nothing, [](M& m, const W& w) { m.club(w[1], w[2]); }}},
+            {"plant", {2, 2, N::nothing, [](M& m, const W& w) { m.planted(w[1], w[2]); }}},
             {"house", {1, 1, N::nothing, [](M& m, const W& w) { m.take(m.house_, w[1]); }}},
             {"plan", {1, 1, N::nothing, [](M& m, const W& w) { m.take(m.plan_, w[1]); }}},
             {"sight", {1, 1, N::nothing, [](M& m, const W& w) { m.take(m.sight_, w[1]); }}},
@@ -292,6 +234,24 @@ private:
         for (const LostLink& link : floor.lost) {
             std::cout << "\n    face " << link.face << ", side " << link.side << ": leads to no room now";
         }
+        made_[name] = floor.bytes;
+    }
+
+    void club(const std::string& from, const std::string& name) {
+        made_[name] = club_floor(first(from));
+        std::cout << counted(made_[name].size(), "byte");
+    }
+
+    // At the desk too.
+    void planted(const std::string& from, const std::string& name) {
+        const Owned old = first(from);
+        const FloorForm floor = plant(old);
+        if (floor.answer.number != 0) {
+            std::cout << refused(floor.answer);
+            return;
+        }
+        std::cout << counted(floor.bytes.size(), "byte") << ", " << counted(word_at(floor.bytes, 100), "node");
+        if (floor.bytes == old) std::cout << ", the same floor byte for byte";
         made_[name] = floor.bytes;
     }
 

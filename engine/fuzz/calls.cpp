@@ -2,10 +2,11 @@
 // slices lie and what its numbers are, and then the slices' bytes (seeds.py writes such inputs). After each call the
 // answer and all lent memory are held to what documents 01 and 02 say without a second implementation at hand: refusals
 // change nothing, work memory comes back cleared, forms read back, a room renamed back leaves the layout as it was, a
-// typed name changes no line and no screen but its own (M-110), a mended floor is accepted and stays as it is, edits are
-// undone to the byte, an undo closes up the journal and a put-back is undo after undo, and the order of two edits counts
-// no more than M-107 lets it.
+// typed name changes no line and no screen but its own (M-110), a mended floor is accepted and stays as it is, a floor
+// without nodes gets the one tree that M-113 has for it, edits are undone to the byte, an undo closes up the journal
+// and a put-back is undo after undo, and the order of two edits counts no more than M-107 lets it.
 #include "mending.hpp"
+#include "planting.hpp"
 #include "screens.hpp"
 #include "sessions.hpp"
 
@@ -58,7 +59,8 @@ struct Game : Sessions {
             case 12: return sight_row();
             case 13: return link_check();
             case 14: return caption_of();
-            default: return mend_seams();
+            case 15: return mend_seams();
+            default: return plant_tree();
         }
     }
 
@@ -133,9 +135,28 @@ struct Game : Sessions {
         Owned form = out.after(), list = second.after();
         form.resize(answer.length);
         list.resize(answer.listed);
-        const Mending mending{first.before, form, list};
+        const Mending mending{{first.before, form}, list};
         mending.judged();
         grade(0, mending.corners()), grade(1, mending.losses()), grade(2, accepts(form).perimeters);
+    }
+
+    void plant_tree() {
+        const wp_form answer = wp_tree(first.data, first.length, work.data, work.length, out.data, out.length);
+        judge(answer, answer.place, 40, 49);
+        require(answer.number < 11 || answer.number > 14, "a tree's refusal of a floor that is to get one");
+        cleared(answer.number);
+        end({&first, &second, &third});
+        written(answer);
+        if (answer.number == 20) return;
+        const wp_answer wanted = Planting::wanted(first.before, out.length);
+        require(answer.number == wanted.number && answer.place == wanted.place, "another refusal, or at another place");
+        if (answer.number != 0) return;
+        Owned form = out.after();
+        form.resize(answer.length);
+        const Planting planting{{first.before, form}};
+        planting.judged();
+        grade(0, accepts(form).faces);
+        for (std::uint32_t plane : {1u, 2u, 3u}) grade(plane, planting.planes(plane));
     }
 
     void query() {

@@ -23,7 +23,7 @@ using Owned = std::vector<std::uint8_t>;
 constexpr std::size_t page = 4096, room = 32 * page, guard = 64;
 constexpr std::uint8_t guard_byte = 0xA5;
 
-constexpr std::size_t calls = 16, numbers = 46, places = 32;
+constexpr std::size_t calls = 17, numbers = 50, places = 32;
 extern std::uint8_t coverage[calls * numbers * places];
 
 // The call that is played.

@@ -3,7 +3,7 @@
 #ifndef WINGPOLLEN_FUZZ_MENDING_HPP
 #define WINGPOLLEN_FUZZ_MENDING_HPP
 
-#include "lent.hpp"
+#include "forms.hpp"
 
 #include <map>
 #include <set>
@@ -11,18 +11,11 @@
 namespace fuzz {
 
 // A floor that was mended, the form that was written, and the list.
-struct Mending {
-    const Owned &before, &form, &list;
+struct Mending : Written {
+    const Owned& list;
 
     // The transition of an edge that leads to no room.
     static constexpr std::uint32_t nowhere = 0xFFFFFFFF;
-
-    static std::uint32_t word(const Owned& bytes, std::size_t at) { return Input(bytes.data() + at, 4).number(4); }
-
-    // Word i of the table of an offset field. The floors here have broken none of the rules 1 to 6.
-    static std::uint32_t entry(const Owned& floor, std::size_t field, std::size_t i) {
-        return word(floor, word(floor, field) + 4 * i);
-    }
 
     // The list's records: those of corners have 15 bytes and stand first, those of half-edges have 7.
     static constexpr std::size_t corner_size = 15, loss_size = 7;
@@ -41,18 +34,12 @@ struct Mending {
         require(word(form, 108) == word(before, 108), "the root does not stay");
         stays(76, 3 * word(before, 72)), stays(88, read.faces), stays(92, 3 * read.faces), stays(96, read.faces);
         stays(104, 11 * word(before, 100));
+        in_fixed_form();
         mended_again();
         listed();
         lowest();
         linked();
         looped();
-    }
-
-    // The table of an offset field has the same words.
-    void stays(std::size_t field, std::size_t words) const {
-        for (std::size_t i = 0; i < words; ++i) {
-            require(entry(before, field, i) == entry(form, field, i), "a table does not stay");
-        }
     }
 
     void mended_again() const {
@@ -154,12 +141,6 @@ struct Mending {
             if (coordinate(3 * std::size_t{one} + i) != coordinate(3 * std::size_t{other} + i)) return false;
         }
         return true;
-    }
-    float coordinate(std::size_t i) const {
-        const std::uint32_t bits = entry(before, 76, i);
-        float value;
-        std::memcpy(&value, &bits, sizeof value);
-        return value;
     }
 };
 

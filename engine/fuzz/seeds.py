@@ -1,9 +1,9 @@
 #!/usr/bin/env python3
 """Writes the fuzz target's first inputs: seeds.py FOLDER. Each is a head of 28 bytes and then the slices, as calls.cpp reads
-them: the sample floors under every call over a floor, floors with split seams, small journals of two benches, pairs of edits, and texts that read and texts that do not, with door hooks and without."""
+them: the sample floors under every call over a floor, floors with split seams, floors without nodes, small journals of two benches, pairs of edits, and texts that read and texts that do not, with door hooks and without."""
 import importlib.util, pathlib, struct, sys
 
-READ, REWRITE, QUERY, PAINT, LINK, NUDGE, UNDO, PUT_BACK, LAYOUT, LAYOUT_NAME, SIGHT, SIGHT_NAME, ROW, CHECK, CAPTION, MEND = range(16)
+READ, REWRITE, QUERY, PAINT, LINK, NUDGE, UNDO, PUT_BACK, LAYOUT, LAYOUT_NAME, SIGHT, SIGHT_NAME, ROW, CHECK, CAPTION, MEND, TREE = range(17)
 
 here = pathlib.Path(__file__).resolve().parent
 spec = importlib.util.spec_from_file_location("make", here.parent.parent / "samples" / "make.py")
@@ -111,6 +111,38 @@ def seams():
     yield dict(alone, vertices=alone["vertices"][:5] + [alone["vertices"][4]] + alone["vertices"][6:])
 
 
+def strip(count, place):
+    """A strip of so many faces, each beside the next: face i has the vertices from i to i + 2, and vertex i stands at place(i)."""
+    faces = [(i, i + 1, i + 2) if i % 2 == 0 else (i + 1, i, i + 2) for i in range(count)]
+    return make.floor([place(i) for i in range(count + 2)], faces, [4] * count)
+
+
+def treeless():
+    """Floors without nodes: few faces and many, each axis the longest, ties, sides that are ties as floats alone, infinite sides, zeros of either
+    sign, faces nobody walks on, any root; then lists that are wrong, and floors that have nodes."""
+    huge = 3.0e38
+    places = [
+        lambda i: (float(i // 2), float(i % 2), 0.0), lambda i: (float(i % 2), float(i // 2), 0.0), lambda i: (float(i % 2), 0.0, float(i // 2)),
+        lambda i: (float(i), float(i), -float(i)), lambda i: (0.0, 0.0, 0.0), lambda i: (-0.0, float(i % 2), -0.0 if i % 3 else 0.0),
+        lambda i: (float(i % 2), 1.0 if i % 2 else -1e-9, 0.0), lambda i: (-1e-9 * i, 1.0 - i, 1e-9 - i),
+        lambda i: (0.0, huge * (-1) ** i, float(i)), lambda i: (huge * (i % 3 - 1), huge * (1 - i % 2), huge * (i % 2 * 2 - 1)),
+        lambda i: (1.0, 2.0 * i, huge * (1 - i) if i < 3 else 0.0),
+    ]
+    for place in places:
+        for count in (1, 2, 3, 5, 8, 13):
+            yield dict(strip(count, place), nodes=[])
+    yield dict(strip(130, places[0]), nodes=[])
+    plain = strip(7, places[0])
+    yield dict(plain, nodes=[], root=make.NONE)
+    yield dict(make.floor(plain["vertices"], plain["faces"], [4, 4, 4, 7, 7, 7, 7]), nodes=[], root=12)
+    yield dict(make.floor(plain["vertices"], plain["faces"], [7] * 7), nodes=[])
+    yield dict(plain, nodes=[], adjacency=plain["adjacency"][1:] + plain["adjacency"][:1])
+    yield dict(plain, nodes=[], perimeters=[])
+    yield dict(plain, nodes=[], faces=[plain["faces"][0]] * 7)
+    yield dict(plain, nodes=plain["nodes"][:1])
+    yield dict(plain, nodes=[[float("inf")] * 6 + [0] * 5])
+
+
 def halves(floor):
     """Edits where a bench has its half, one less or more than it, where nobody's record is among them, and with f up to and past what fits."""
     for own, other, nobody, fit in ((1, 0, 0, 2), (0, 1, 0, 2), (1, 0, 0, 3), (0, 1, 1, 2), (1, 1, 0, 4), (2, 1, 0, 4), (0, 3, 0, 4), (0, 4, 0, 4), (1, 1, 1, 5), (3, 0, 0, 4)):
@@ -147,18 +179,26 @@ def taken_out(floor):
             yield case(call, painted, journal, f=len(journal) // RECORD, bench=bench)
 
 
-def cases():
-    floors = {name: data for name, _, data, _ in make.samples() if len(data) < 8192}
-    for name, data in floors.items():
+def floor_cases(floors):
+    """Every sample under every call over a floor."""
+    for data in floors.values():
         yield case(READ, data)
         yield case(REWRITE, data)
         yield case(QUERY, data, a=32, b=32)
         yield case(CHECK, data, LAYOUTS[0])
         yield case(MEND, data)
         yield case(MEND, data, bytes(64))
+        yield case(TREE, data)
+        # the nodes are no longer counted and their bytes are a gap
+        if len(data) >= 136:
+            yield case(TREE, make.changed(data, 100, 0))
         yield case(PAINT, data, bytes(2 * RECORD), a=0, b=5)
         for moves in VISITS:
             yield case(PUT_BACK, data, bytes(8 * RECORD), bytes(x for move in moves for x in move))
+
+
+def bench_cases(floors):
+    """Edits and journals on samples that are accepted."""
     for name in ("triangle", "square", "hole", "shuffled", "mixed", "linked"):
         data = floors[name]
         for a, b in ((0, 0), (64, 0), (-1, 5), (96, 96), (65537, 0)):
@@ -187,12 +227,28 @@ def cases():
         yield case(READ, data, work=70000, lie=9)
         yield case(REWRITE, data, out=len(data) - 1)
         yield from taken_out(data)
+
+
+def desk_cases():
+    """Floors that are mended or given a tree, with room enough and too little."""
     for data in map(make.spelled, seams()):
         for room in (0, 14, 15, 30, 90, 400):
             yield case(MEND, data, bytes(room))
         yield case(MEND, data, bytes(400), out=440)
         yield case(MEND, data, bytes(400), out=464, work=65535)
         yield case(READ, data)
+    for parts in treeless():
+        data = make.spelled(parts)
+        planted = len(data) + 44 * (2 * len(parts["faces"]) - 1)
+        yield case(TREE, data)
+        yield case(TREE, data, out=planted, lie=9)
+        yield case(TREE, data, out=planted - 1)
+        yield case(TREE, make.spelled(parts, make.TABLES[::-1], 3), out=planted, work=70000)
+    yield case(TREE, data, work=65535)
+
+
+def text_cases(floors):
+    """Layouts and sights, alone and with each other."""
     for text in HOOKED:
         yield case(LAYOUT, text, out=8192)
         for room, name in ((0, b"New_Name"), (1, b"New_Name"), (1, b"hall"), (1, b"LARDER"), (0, b"HALL")):
@@ -217,6 +273,14 @@ def cases():
         yield case(SIGHT_NAME, text, LAYOUTS[0], b"HALL", a=1)
         yield case(ROW, text, LAYOUTS[0], a=1)
         yield case(ROW, text, LAYOUTS[0], a=1, lie=0b1110110)
+
+
+def cases():
+    floors = {name: data for name, _, data, _ in make.samples() if len(data) < 8192}
+    yield from floor_cases(floors)
+    yield from bench_cases(floors)
+    yield from desk_cases()
+    yield from text_cases(floors)
 
 
 if __name__ == "__main__":

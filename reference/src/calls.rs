@@ -1,7 +1,7 @@
 //! The calls of both sides as one table of functions, so that a case runs on either.
 
 use crate::answer::{Answer, CaptionAt, Floor, Form, Mended, Point, Row, Session};
-use crate::{caption, floor, form, journal, layout, links, mend, query, sight};
+use crate::{caption, floor, form, journal, layout, links, mend, plant, query, sight};
 
 /// An edit: floor, journal, f, bench, place, and what to write there as 32 bits.
 pub type Edit = fn(&mut [u8], &mut [u8], u32, u32, u32, u32) -> Session;
@@ -20,6 +20,7 @@ pub struct Calls {
     pub read: fn(&[u8], &mut [u8]) -> Floor,
     pub rewrite: fn(&[u8], &mut [u8], &mut [u8]) -> Form,
     pub mend: Mend,
+    pub tree: fn(&[u8], &mut [u8], &mut [u8]) -> Form,
     pub query: fn(&[u8], &mut [u8], i32, i32) -> Point,
     pub paint: Edit,
     pub link: Edit,
@@ -41,6 +42,7 @@ pub const REFERENCE: Calls = Calls {
     read: floor::read,
     rewrite: form::rewrite,
     mend: mend::mend,
+    tree: plant::tree,
     query: query::query,
     paint: journal::paint,
     link: |floor, journal, f, bench, entry, to| {
@@ -83,6 +85,7 @@ mod engine {
         fn wp_rewrite(bytes: Bytes, n: usize, work: Lent, m: usize, out: Lent, o: usize) -> Form;
         fn wp_mend(bytes: Bytes, n: usize, work: Lent, m: usize, out: Lent, o: usize,
             list: Lent, l: usize) -> Mended;
+        fn wp_tree(bytes: Bytes, n: usize, work: Lent, m: usize, out: Lent, o: usize) -> Form;
         fn wp_query(bytes: Bytes, n: usize, work: Lent, m: usize, x: i32, y: i32) -> Point;
         fn wp_paint(floor: Lent, n: usize, journal: Lent, m: usize, f: u32, bench: u32,
             face: u32, material: u32) -> Session;
@@ -115,6 +118,9 @@ mod engine {
         mend: |b, w, o, l| unsafe {
             wp_mend(b.as_ptr(), b.len(), w.as_mut_ptr(), w.len(), o.as_mut_ptr(), o.len(),
                 l.as_mut_ptr(), l.len())
+        },
+        tree: |b, w, o| unsafe {
+            wp_tree(b.as_ptr(), b.len(), w.as_mut_ptr(), w.len(), o.as_mut_ptr(), o.len())
         },
         query: |b, w, x, y| unsafe { wp_query(b.as_ptr(), b.len(), w.as_mut_ptr(), w.len(), x, y) },
         paint: |b, j, f, bench, face, material| unsafe {

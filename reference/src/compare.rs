@@ -1,6 +1,7 @@
 //! Runs cases on two sides and compares every answer and every byte of every lent slice. Each side is also
 //! held to what M-100 says of door hooks, M-104 of rewritten layouts, M-107 of the order of two edits, M-108 of runs
-//! of two benches, M-109 of mended floors and M-110 of texts that are alike but for one room's name.
+//! of two benches, M-109 of mended floors, M-110 of texts that are alike but for one room's name and M-113 of floors that get a
+//! tree.
 
 use crate::answer::Fields;
 use crate::benches;
@@ -8,6 +9,7 @@ use crate::calls::Calls;
 use crate::digits;
 use crate::doors;
 use crate::fault::{self, Fault};
+use crate::generate::bare::{self, Planting};
 use crate::generate::cases::{case, Call, Case, Lent};
 use crate::generate::screens::Screens;
 use crate::generate::seams::{enough, Mending};
@@ -17,6 +19,7 @@ use crate::order;
 use crate::screens;
 use crate::seams;
 use crate::tally::Tally;
+use crate::trees;
 
 /// One side of a comparison: its calls, and a fault planted while they run.
 #[derive(Clone, Copy)]
@@ -71,12 +74,13 @@ pub const GUARD: usize = 37;
 /// What stands there, and in outputs of whose old bytes nothing else is wanted.
 pub const GUARD_BYTE: u8 = 0xA5;
 
-/// Runs a case on one side: one call, a layout's form once more, a mending and what is asked of its result, all calls
-/// with two pairs of texts, the calls of a session, or all that is played with a pair.
+/// Runs a case on one side: one call, a layout's form once more, a mending or a planting and what is asked of its result, all
+/// calls with two pairs of texts, the calls of a session, or all that is played with a pair.
 pub fn run(case: &Case, side: &Side) -> Vec<Done> {
     match case {
         Case::One { call, lent } => return run_one(*call, lent, side),
         Case::Mending(mending) => return run_mending(mending, side),
+        Case::Planting(planting) => return run_planting(planting, side),
         Case::Screens(screens) => return run_screens(screens, side),
         Case::Session(_) | Case::Pair(_) => (),
     }
@@ -129,6 +133,7 @@ fn make(call: Call, calls: &Calls, lent: &mut [&mut [u8]]) -> Fields {
         (Call::Read, [b, w]) => (calls.read)(b, w).fields(),
         (Call::Rewrite, [b, w, out]) => (calls.rewrite)(b, w, out).fields(),
         (Call::Mend, [b, w, out, list]) => (calls.mend)(b, w, out, list).fields(),
+        (Call::Tree, [b, w, out]) => (calls.tree)(b, w, out).fields(),
         (Call::Query { x, y }, [b, w]) => (calls.query)(b, w, x, y).fields(),
         (Call::Edit { f, edit: Edit { bench, tag, place, to } }, [floor, journal]) => {
             let edit = match tag {
@@ -176,6 +181,40 @@ fn run_mending(mending: &Mending, side: &Side) -> Vec<Done> {
         40 => {
             let [out, list] = enough(&mending.floor).map(|length| vec![GUARD_BYTE; length]);
             all.push(mend(&mending.floor, [("out", out), ("list", list)]));
+        }
+        _ => (),
+    }
+    all
+}
+
+/// Gives a floor its tree, and asks the reader about the floor under some tree. What is written is read, rewritten and
+/// planted again, in the same lent memory; where the output was too short, the floor gets its tree with room enough.
+fn run_planting(planting: &Planting, side: &Side) -> Vec<Done> {
+    let call = |call: Call, floor: &[u8], out: &[u8]| {
+        let lent = [
+            ("floor", floor.to_vec()),
+            ("work", planting.work.clone()),
+            ("out", out.to_vec()),
+        ];
+        let slices = if call == Call::Read { 2 } else { 3 };
+        run_call(call, &lent[..slices], side)
+    };
+    let (floor, out) = (&planting.floor, &planting.out);
+    let mut all = vec![
+        call(Call::Tree, floor, out),
+        call(Call::Read, &bare::under_any_tree(floor), &[]),
+    ];
+    match all[0].number() {
+        0 => {
+            let Some(result) = seams::result(&all[0]).map(<[u8]>::to_vec) else {
+                return all; // says that it wrote more than there is
+            };
+            let asked = [Call::Read, Call::Rewrite, Call::Tree];
+            all.extend(asked.map(|ask| call(ask, &result, out)));
+        }
+        40 => {
+            let room = vec![GUARD_BYTE; bare::enough(floor)];
+            all.push(call(Call::Tree, floor, &room));
         }
         _ => (),
     }
@@ -271,11 +310,12 @@ pub fn played<'a>(plays: &'a [Play], mut all: &'a [Done]) -> Vec<(&'a Play, &'a 
     played
 }
 
-/// The sentences about layouts, texts that are alike, pairs, runs and mended floors that one side broke in a case.
+/// The sentences about layouts, texts that are alike, pairs, runs, mended floors and trees that one side broke in a case.
 fn broken(case: &Case, all: &[Done]) -> Vec<String> {
     let mut found = match case {
         Case::Pair(pair) => order::broken(pair, all),
         Case::Mending(mending) => seams::broken(mending, all),
+        Case::Planting(planting) => trees::broken(planting, all),
         Case::Screens(screens) => screens::broken(screens, all),
         Case::One { .. } => [digits::broken(all), doors::broken(all)].concat(),
         Case::Session(_) => Vec::new(),
@@ -287,7 +327,7 @@ fn broken(case: &Case, all: &[Done]) -> Vec<String> {
 }
 
 /// All that is wrong with what both sides did in one case, in words: which sentence about layouts, texts
-/// that are alike, pairs, runs or mended floors either of them broke, and where they differ.
+/// that are alike, pairs, runs, mended floors or trees either of them broke, and where they differ.
 pub fn wrong(case: &Case, sides: [&Side; 2], done: [&[Done]; 2]) -> Vec<String> {
     let mut found = Vec::new();
     for (side, all) in sides.iter().zip(done) {
@@ -303,7 +343,7 @@ pub fn wrong(case: &Case, sides: [&Side; 2], done: [&[Done]; 2]) -> Vec<String> 
 }
 
 /// Runs cases 0 to `cases` - 1 of a seed on both sides. Tells each before it starts, and then each
-/// in which the sides differ or one of them breaks a sentence about layouts, texts, pairs, runs or mended floors.
+/// in which the sides differ or one of them breaks a sentence about layouts, texts, pairs, runs, mended floors or trees.
 pub fn compare(
     cases: u64,
     seed: u64,

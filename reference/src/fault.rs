@@ -130,10 +130,36 @@ pub enum Fault {
     NameWithBreak,
     /// A typed name that is refused only after the plain form has been written.
     NameAskedLate,
+    /// A range of faces whose lower half is rounded up.
+    LowerHalfUp,
+    /// A tree whose right subtrees are numbered before the left ones.
+    RightFirst,
+    /// A box around the first corner of each face only.
+    FirstCorner,
+    /// A box that keeps negative zero.
+    MinusZeroKept,
+    /// A plane across the last of the longest sides.
+    LastOnTie,
+    /// Planes that count from 0.
+    PlanesFromZero,
+    /// A plane across the longest of the finite sides, where there are any.
+    InfiniteLeftOut,
+    /// A leaf that has a plane.
+    LeafPlane,
+    /// Nodes with 0 for their unknown number.
+    UnknownZero,
+    /// The root field of a floor that gets a tree left as it was.
+    RootKept,
+    /// 49 given after 15 to 19.
+    NodesAskedLate,
+    /// 49 given before 7 to 10.
+    NodesAskedEarly,
+    /// 11 to 14 asked of nodes that are there, before 49.
+    TreeAsked,
 }
 
 /// All faults with the names by which they are asked for.
-pub const FAULTS: [(&str, Fault); 62] = [
+pub const FAULTS: [(&str, Fault); 75] = [
     ("minus-zero", Fault::MinusZero),
     ("children-from-one", Fault::ChildrenFromOne),
     ("depth-65", Fault::DepthSixtyFive),
@@ -196,6 +222,19 @@ pub const FAULTS: [(&str, Fault); 62] = [
     ("long-name-broken", Fault::LongNameBroken),
     ("name-with-break", Fault::NameWithBreak),
     ("name-asked-late", Fault::NameAskedLate),
+    ("lower-half-up", Fault::LowerHalfUp),
+    ("right-first", Fault::RightFirst),
+    ("first-corner", Fault::FirstCorner),
+    ("minus-zero-kept", Fault::MinusZeroKept),
+    ("last-on-tie", Fault::LastOnTie),
+    ("planes-from-zero", Fault::PlanesFromZero),
+    ("infinite-left-out", Fault::InfiniteLeftOut),
+    ("leaf-plane", Fault::LeafPlane),
+    ("unknown-zero", Fault::UnknownZero),
+    ("root-kept", Fault::RootKept),
+    ("nodes-asked-late", Fault::NodesAskedLate),
+    ("nodes-asked-early", Fault::NodesAskedEarly),
+    ("tree-asked", Fault::TreeAsked),
 ];
 
 thread_local! {

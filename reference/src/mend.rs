@@ -8,7 +8,7 @@ use crate::floor;
 use crate::floor::border::{ends, transition_is_right, NO_PARTNER};
 use crate::floor::tables::{Table, Tables, FIELDS, HEADER};
 use crate::form::{deliver, laid_out, ORDER};
-use crate::words::put_word;
+use crate::words::{bytes_of, put_word};
 use std::collections::{BTreeMap, BTreeSet, HashMap, HashSet};
 
 /// The tags of the list's records: a corner changed, and a half-edge that lost its transition.
@@ -249,9 +249,4 @@ fn record(tag: u8, numbers: &[usize]) -> Vec<u8> {
     let words: Vec<u32> = numbers.iter().map(|&number| number as u32).collect();
     let length = (4 * words.len() as u16).to_le_bytes();
     [&[tag], &length[..], &bytes_of(&words)].concat()
-}
-
-/// Words as bytes.
-fn bytes_of(words: &[u32]) -> Vec<u8> {
-    words.iter().flat_map(|word| word.to_le_bytes()).collect()
 }

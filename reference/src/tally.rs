@@ -12,12 +12,13 @@ use crate::generate::damage::LARGE;
 use crate::order;
 use crate::screens;
 use crate::seams;
+use crate::trees;
 use crate::words::word_at;
 use std::collections::{BTreeMap, BTreeSet};
 
 /// All numbers that calls answer, in order.
 pub fn numbers() -> impl Iterator<Item = u64> {
-    (0..=43).chain([45])
+    (0..=43).chain([45, 49])
 }
 
 /// How often calls were made, and which numbers they answered at how many different places.
@@ -39,6 +40,8 @@ pub struct Tally {
     pub benches: benches::Counts,
     /// What mended floors were like.
     pub seams: seams::Counts,
+    /// What floors were like that were to get a tree.
+    pub trees: trees::Counts,
     /// How numbers were typed in layouts that were rewritten.
     pub digits: digits::Counts,
     /// What layouts with door hooks were like.
@@ -58,6 +61,7 @@ impl Tally {
         match case {
             Case::Pair(pair) => self.pairs.add(pair, all),
             Case::Mending(mending) => self.seams.add(mending, all),
+            Case::Planting(planting) => self.trees.add(planting, all),
             Case::Screens(screens) => self.screens.add(screens, all),
             Case::One { .. } => {
                 self.digits.add(all);
@@ -127,8 +131,8 @@ impl Tally {
             .unwrap_or(0)
     }
 
-    /// Both tables, the roots, the large floors, the pairs of edits, the two benches, the mended floors, the numbers typed,
-    /// the door hooks, the names that begin alike, the texts that differ in one name and the last line.
+    /// Both tables, the roots, the large floors, the pairs of edits, the two benches, the mended floors, the trees, the numbers
+    /// typed, the door hooks, the names that begin alike, the texts that differ in one name and the last line.
     pub fn print(&self) {
         println!("{:<16}{:>9}", "call", "calls");
         for (call, count) in &self.calls {
@@ -157,6 +161,7 @@ impl Tally {
         println!("{}", self.pairs.line());
         println!("{}", self.benches.line());
         println!("{}", self.seams.line());
+        println!("{}", self.trees.line());
         println!("{}", self.digits.line());
         println!("{}", self.doors.line());
         println!("{}", self.beginnings.line());

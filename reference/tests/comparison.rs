@@ -195,7 +195,7 @@ fn a_case_is_the_same_each_time() {
 #[test]
 fn outputs_of_the_exact_size_and_one_less_occur() {
     let (mut exact, mut less) = (0, 0);
-    for number in 0..3_000 {
+    for number in 0..6_000 {
         if let Case::One {
             call: Call::Rewrite,
             lent,

@@ -205,7 +205,7 @@ fn own_latest(journal: &[u8], f: u32, bench: u32) -> &[u8] {
 /// How many cases differ between calls that ask in another order and those that do not.
 fn differences(calls: Calls) -> u64 {
     let side = Side { calls, fault: None };
-    compare(8_000, 1, [&side, &HONEST], |_| (), |_, _| ()).different
+    compare(10_000, 1, [&side, &HONEST], |_| (), |_, _| ()).different
 }
 
 /// An undo that asks 45 before 28.

@@ -5,3 +5,4 @@ pub mod Group
 pub mod Entries
 pub mod Rings
 pub mod Sound
+pub mod Same

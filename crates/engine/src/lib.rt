@@ -14,6 +14,7 @@ ghost use Rattle.verdict.specs.Output.{formAnswer, formMemory};
 ghost use Rattle.floor.specs.Reader.{readerAnswer, readerMemory};
 ghost use Rattle.floor.specs.Rewrite.{rewriteAnswer, rewriteMemory};
 ghost use Rattle.seams.specs.Mend.{mendAnswer, mendOutput, mendList};
+ghost use Rattle.plant.specs.Plant.{plantAnswer, plantOutput};
 ghost use Rattle.query.specs.Points.{pointAnswer};
 ghost use Rattle.laying.specs.Area.{areaFloor};
 ghost use Rattle.journal.specs.Wish.{paint, link, nudge};
@@ -54,6 +55,16 @@ pub extern "C" fn wp_mend(bytes: &[u8], work: &mut [u8], out: &mut [u8], list: &
     ensures list { λ _. ⌜ now (list .exit) ≡ mendList (now (bytes .entry)) (length (now (work .entry))) (now (out .entry)) (now (list .entry)) ⌝ }
 {
     mend::mend(bytes, work, out, list)
+}
+
+// A floor that comes without a tree, with one: its fixed form.
+#[no_mangle]
+pub extern "C" fn wp_tree(bytes: &[u8], work: &mut [u8], out: &mut [u8]) -> Form
+    ensures answer { λ r. ⌜ r ≡ plantAnswer (now (bytes .entry)) (length (now (work .entry))) (length (now (out .entry))) ⌝ }
+    ensures memory { λ _. ⌜ now (work .exit) ≡ readerMemory (now (work .entry)) ⌝ }
+    ensures output { λ _. ⌜ now (out .exit) ≡ plantOutput (now (bytes .entry)) (length (now (work .entry))) (now (out .entry)) ⌝ }
+{
+    plant::plant(bytes, work, out)
 }
 
 // The point query, x and y in sixty-fourths.

@@ -134,6 +134,9 @@ module _ (b : List ℕ) (r : RightHeader b) where
   pub start-next : (k : ℕ) → k < 9 → startOf (partsOf b) (k + 1) ≡ startOf (partsOf b) k + 4 * wordsIn b k
   start-next k l = rw (count-is b k l) at (start-more (partsOf b) (sized-of b r) k l)
 
+  pub table-words : (k : ℕ) → k < 9 → length (tableOf (partsOf b) k) ≡ wordsIn b k
+  table-words k l = rw (← count-is b k l) (sized-of b r .sized k l)
+
 -- by few counts the running position stays under a form's greatest length
 pub start-few : (n : Numbers) → Few n → (k : ℕ) → k ≤ 9 → startBy n k ≤ 737372
 unfolding startBy

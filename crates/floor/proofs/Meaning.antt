@@ -105,7 +105,7 @@ pub room-is-enough : (b : List ℕ) (room : ℕ) → readerVerdict b room .numbe
 unfolding rule20
 room-is-enough b room z = ltb-false room workSize (unbroken 19 (ltb room workSize) 0 (passed _ _ (rw (by-groups b room) at z) .0))
 
-room-enough : (room : ℕ) → workSize ≤ room → rule20 room ≡ accepted
+pub room-enough : (room : ℕ) → workSize ≤ room → rule20 room ≡ accepted
 unfolding rule20
 room-enough room l = rw (le-ltb room workSize l) (met 20 0)
 

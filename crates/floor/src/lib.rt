@@ -33,7 +33,7 @@ fn shape_verdict(bytes: &[u8]) -> Answer
 }
 
 // Rules 15 to 19.
-fn borders_verdict(bytes: &[u8], work: &mut [u8]) -> Answer
+pub fn borders_verdict(bytes: &[u8], work: &mut [u8]) -> Answer
     requires { ⌜ RightHeader (now bytes) × (workSize ≤ length (now work)) ⌝ }
     ensures answer { λ r. ⌜ r ≡ rules15to19 (partsOf (now (bytes .entry))) ⌝ }
     ensures memory { λ _. ⌜ SamePast (now (work .exit)) (now (work .entry)) ⌝ }

@@ -137,7 +137,7 @@ fn first_neither(bytes: &[u8]) -> usize
 }
 
 // How many nodes so many faces have: one less than twice as many, none for none.
-fn nodes_for(faces: usize) -> usize
+pub fn nodes_for(faces: usize) -> usize
     requires { ⌜ faces ≤ 4096 ⌝ }
     ensures { λ r. ⌜ r ≡ 2 * faces - 1 ⌝ }
 {

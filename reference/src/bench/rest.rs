@@ -1,4 +1,4 @@
-//! Reading, querying, mending, editing and rewriting at growing sizes: the library beside this implementation.
+//! Reading, querying, mending, planting, editing and rewriting at growing sizes: the library beside this implementation.
 
 use crate::answer::Session;
 use crate::calls::{Calls, OTHER, REFERENCE};
@@ -59,6 +59,7 @@ pub fn table() {
         }
     }
     mends_table(&sides);
+    trees_table(&sides);
     journals_table(&sides);
     texts_table(&sides);
 }
@@ -126,6 +127,25 @@ fn mend_row(name: &str, model: &Model, faces: usize, sides: &[Calls], before: &m
         assert_eq!(mended.number, 0);
     });
     println!("{:>9.2} x read", mending / reading);
+}
+
+/// Trees for the floors that are read above, their nodes taken away. The output has room for just as many nodes as they
+/// had. Beside each stands what it is by the reader's time of the floor with its nodes.
+fn trees_table(sides: &[Calls]) {
+    let last = &sides[sides.len() - 1];
+    let mut before = None;
+    for (faces, columns, rows) in SIZES {
+        let mut model = large(&mut Random::new(1), columns, rows);
+        let mut bench = bench_of(&model, faces);
+        let reading = best(|| read(last, &mut bench));
+        model.nodes.clear();
+        let bare = model.in_order();
+        let planting = timed("tree", faces, sides, &mut before, |side| {
+            let planted = (side.tree)(&bare, &mut bench.work, &mut bench.out);
+            assert_eq!(planted.length as usize, bench.floor.len());
+        });
+        println!("{:>9.2} x read", planting / reading);
+    }
 }
 
 /// Bench 0 paints face 0 and undoes it, so that the next run finds the same floor and journal.

@@ -132,6 +132,11 @@ fn handed_in(case: &Case) {
             bytes("list", &mending.list);
             println!("work, {} bytes", mending.work.len());
         }
+        Case::Planting(planting) => {
+            bytes("floor", &planting.floor);
+            bytes("out", &planting.out);
+            println!("work, {} bytes", planting.work.len());
+        }
         Case::Screens(screens) => handed_in_twice(screens),
         Case::Session(play) => {
             bytes("floor", &play.floor);

@@ -1,4 +1,5 @@
-//! The floor reader: rules 1 to 20 in the order of 01's table, then the counts. Mending asks it too, but not for 16 to 19.
+//! The floor reader: rules 1 to 20 in the order of 01's table, then the counts. Mending asks it too, but not for 16 to 19, and
+//! planting, but not for 11 to 14.
 
 pub mod border;
 pub mod mesh;
@@ -56,24 +57,35 @@ pub(crate) fn enough_work(work: &mut [u8]) -> Checked<()> {
 /// Rules 1 to 19.
 pub(crate) fn check(bytes: &[u8]) -> Checked<Tables<'_>> {
     let (tables, partners) = check_to_15(bytes)?;
-    border::adjacency_is_right(&tables, &partners)?; // 16
-    border::edges_are_the_borders(&tables, &partners)?; // 17
-    border::transitions_are_right(&tables)?; // 18
-    border::perimeters_are_right(&tables)?; // 19
+    lists_are_right(&tables, &partners)?; // 16 to 19
     Ok(tables)
 }
 
 /// Rules 1 to 15, which ask nothing of the entries of adjacency, edges and perimeters. Gives each half-edge's partner too.
 pub(crate) fn check_to_15(bytes: &[u8]) -> Checked<(Tables<'_>, Vec<Option<usize>>)> {
-    let tables = Tables::open(bytes)?; // 1 to 6
-    mesh::floats_are_finite(&tables)?; // 7
-    mesh::corners_are_right(&tables)?; // 8
-    mesh::materials_are_known(&tables)?; // 9
-    mesh::walkable_come_first(&tables)?; // 10
+    let tables = check_to_10(bytes)?;
     tree::counts_are_right(&tables)?; // 11
     let nodes = tree::nodes(&tables)?; // 12
     tree::is_one_tree(&nodes, tree::root(&tables), tables.count(Table::Faces))?; // 13
     tree::boxes_are_large_enough(&nodes, &tables)?; // 14
     let partners = border::partners(&tables)?; // 15
     Ok((tables, partners))
+}
+
+/// Rules 1 to 10, which ask nothing of nodes but where they stand and that their boxes are finite.
+pub(crate) fn check_to_10(bytes: &[u8]) -> Checked<Tables<'_>> {
+    let tables = Tables::open(bytes)?; // 1 to 6
+    mesh::floats_are_finite(&tables)?; // 7
+    mesh::corners_are_right(&tables)?; // 8
+    mesh::materials_are_known(&tables)?; // 9
+    mesh::walkable_come_first(&tables)?; // 10
+    Ok(tables)
+}
+
+/// Rules 16 to 19, which ask about the entries of adjacency, edges and perimeters.
+pub(crate) fn lists_are_right(tables: &Tables, partners: &[Option<usize>]) -> Checked<()> {
+    border::adjacency_is_right(tables, partners)?; // 16
+    border::edges_are_the_borders(tables, partners)?; // 17
+    border::transitions_are_right(tables)?; // 18
+    border::perimeters_are_right(tables) // 19
 }

@@ -1,6 +1,7 @@
-//! One case of a comparison: a call with all that is lent to it, a floor mended, two pairs of texts, a session of calls, or a
-//! pair of edits.
+//! One case of a comparison: a call with all that is lent to it, a floor mended, a floor that gets a tree, two pairs of texts, a
+//! session of calls, or a pair of edits.
 
+use super::bare::{self, Planting};
 use super::edit_pairs::{self, Pair};
 use super::random::Random;
 use super::screens::{self, Screens};
@@ -20,6 +21,7 @@ pub enum Call {
     Read,
     Rewrite,
     Mend,
+    Tree,
     Query { x: i32, y: i32 },
     Edit { f: u32, edit: Edit },
     Undo { f: u32, bench: u32 },
@@ -40,6 +42,7 @@ impl Call {
             Call::Read => "read",
             Call::Rewrite => "rewrite",
             Call::Mend => "mend",
+            Call::Tree => "tree",
             Call::Query { .. } => "query",
             Call::Edit { edit, .. } => match edit.tag {
                 PAINT => "paint",
@@ -79,12 +82,13 @@ impl Call {
 /// A lent slice and what it is called.
 pub type Lent = (&'static str, Vec<u8>);
 
-/// One call with all its slices, in the order of the exported call, a floor mended, two pairs of texts that are alike but for
-/// one name, a session, or a pair of edits.
+/// One call with all its slices, in the order of the exported call, a floor mended, one that gets a tree, two pairs of texts that
+/// are alike but for one name, a session, or a pair of edits.
 #[derive(Clone, Debug)]
 pub enum Case {
     One { call: Call, lent: Vec<Lent> },
     Mending(Mending),
+    Planting(Planting),
     Screens(Box<Screens>),
     Session(Play),
     Pair(Pair),
@@ -94,9 +98,9 @@ impl Case {
     /// The sessions that are played: none, one, or all that a pair asks for.
     pub fn plays(&self) -> Vec<Play> {
         match self {
-            Case::One { .. } | Case::Mending(_) | Case::Screens(_) => Vec::new(),
             Case::Session(play) => vec![play.clone()],
             Case::Pair(pair) => pair.plays(),
+            _ => Vec::new(),
         }
     }
 }
@@ -108,8 +112,9 @@ fn one<const N: usize>(call: Call, lent: [Lent; N]) -> Case {
     }
 }
 
-/// One case in so many lends a small floor's outputs at every length in turn, and another one has a hook that is wrong in
-/// every way in turn. One in twice as many has two pairs of texts that are alike.
+/// One case in so many lends a small floor's outputs at every length in turn where it is mended, another one where it gets a
+/// tree, and another one has a hook that is wrong in every way in turn. One in twice as many has two pairs of texts that are
+/// alike.
 pub const TURN: u64 = 20;
 
 /// Case number `number` of the run with this seed.
@@ -122,10 +127,13 @@ pub fn case(seed: u64, number: u64) -> Case {
     if number % TURN == TURN / 2 {
         return hooked_in_turn(random, (number / TURN) as usize);
     }
+    if number % TURN == 3 * TURN / 4 {
+        return Case::Planting(bare::in_turn(random, (number / TURN) as usize));
+    }
     if number % (2 * TURN) == TURN / 4 {
         return Case::Screens(Box::new(screens::screens(random)));
     }
-    match random.under(59) {
+    match random.under(65) {
         0..=11 => read(random),
         12 | 13 => rewrite(random),
         14..=18 => query(random),
@@ -138,6 +146,7 @@ pub fn case(seed: u64, number: u64) -> Case {
         40 | 41 => link_check(random),
         42 => caption(random),
         43..=52 => Case::Mending(seams::mending(random)),
+        53..=58 => Case::Planting(bare::planting(random)),
         _ => Case::Pair(edit_pairs::pair(random)),
     }
 }

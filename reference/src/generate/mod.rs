@@ -1,7 +1,8 @@
 //! Seeded cases: valid floors and texts, damaged ones aimed at every refusal, texts alike but for one name, floors with
-//! split seams, sessions of two benches, pairs of edits and queries.
+//! split seams, floors without nodes, sessions of two benches, pairs of edits and queries.
 
 pub mod alike;
+pub mod bare;
 pub mod cases;
 pub mod damage;
 pub mod edit_pairs;
@@ -21,4 +22,5 @@ pub mod sessions;
 pub mod shapes;
 pub mod text_damage;
 pub mod texts;
+pub mod tree_damage;
 pub mod two_faults;

@@ -96,7 +96,7 @@ pub fn enough(floor: &[u8]) -> [usize; 2] {
 }
 
 /// A length around what is needed, mostly enough.
-fn some_length(random: &mut Random, needed: usize) -> usize {
+pub(super) fn some_length(random: &mut Random, needed: usize) -> usize {
     match random.under(16) {
         0 => 0,
         1 => needed.saturating_sub(1),

@@ -70,7 +70,7 @@ const WORK_SLICE: usize = 1;
 const OUT_SLICE: usize = 2;
 const LIST_SLICE: usize = 3;
 
-/// The bytes that a mending or a rewriting says it wrote to its output; nothing if there are not so many.
+/// The bytes that a mending, a planting or a rewriting says it wrote to its output; nothing if there are not so many.
 pub fn result(done: &Done) -> Option<&[u8]> {
     done.lent(OUT_SLICE).get(..done.fields[2].1 as usize)
 }
@@ -86,7 +86,7 @@ pub fn broken(mending: &Mending, all: &[Done]) -> Vec<String> {
     let number = done.number();
     let mut said = vec![
         (NUMBERS, !matches!(number, 0..=15 | 20 | SHORT)),
-        (WORK_LEFT, done.lent(WORK_SLICE) != work_left(mending)),
+        (WORK_LEFT, done.lent(WORK_SLICE) != work_left(&mending.work)),
     ];
     match (number, all) {
         (0, [done, read, rewritten, again]) => {
@@ -107,8 +107,8 @@ pub fn broken(mending: &Mending, all: &[Done]) -> Vec<String> {
 }
 
 /// The work memory as it must be left: zero so far as a reader needs it, untouched if that is too much.
-fn work_left(mending: &Mending) -> Vec<u8> {
-    let mut work = mending.work.clone();
+pub fn work_left(lent: &[u8]) -> Vec<u8> {
+    let mut work = lent.to_vec();
     if let Some(used) = work.get_mut(..WORK) {
         used.fill(0);
     }

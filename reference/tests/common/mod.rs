@@ -6,8 +6,9 @@ use reference::calls::{Calls, REFERENCE};
 use reference::compare::{compare, Side};
 use reference::fault::Fault;
 use reference::floor;
+use reference::generate::bare::enough;
 use reference::generate::model::Model;
-use reference::{form, layout, query, sight};
+use reference::{form, layout, plant, query, sight};
 
 pub const NONE: u32 = 0xFFFF_FFFF;
 
@@ -42,11 +43,11 @@ pub fn are_noticed(found: &[String], sentences: &[&str]) {
     }
 }
 
-fn bits(numbers: [f32; 3]) -> [u32; 3] {
+pub fn bits(numbers: [f32; 3]) -> [u32; 3] {
     numbers.map(f32::to_bits)
 }
 
-fn node(least: [f32; 3], greatest: [f32; 3], words: [u32; 5]) -> [u32; 11] {
+pub fn node(least: [f32; 3], greatest: [f32; 3], words: [u32; 5]) -> [u32; 11] {
     let mut node = [0; 11];
     node[..3].copy_from_slice(&bits(least));
     node[3..6].copy_from_slice(&bits(greatest));
@@ -99,6 +100,21 @@ pub fn square() -> Model {
     model
 }
 
+/// The square of W5 over these four vertices, without nodes and with a root field that says nothing.
+pub fn bare_square(vertices: [[f32; 3]; 4]) -> Model {
+    Model {
+        vertices: vertices.map(bits).to_vec(),
+        nodes: Vec::new(),
+        root: 0x8000_0000,
+        ..square()
+    }
+}
+
+/// The same over the vertices of W5.
+pub fn plain_square() -> Model {
+    bare_square([[0.0; 3], [1.0, 0.0, 0.0], [0.0, 1.0, 0.0], [1.0, 1.0, 0.0]])
+}
+
 /// Two walkable triangles that share no vertex: two loops.
 pub fn two_apart() -> Model {
     let mut model = square();
@@ -148,6 +164,29 @@ pub fn rewritten(bytes: &[u8]) -> (Form, Vec<u8>) {
     kept_past(&answer, out)
 }
 
+/// Gives bytes a tree with room enough; what is past the form must stay, and the work memory be as after reading.
+pub fn planted(bytes: &[u8]) -> (Form, Vec<u8>) {
+    let mut work = vec![0xEE; floor::WORK + 3];
+    let mut out = vec![0xEE; enough(bytes) + 3];
+    let answer = plant::tree(bytes, &mut work, &mut out);
+    assert!(work[..floor::WORK].iter().all(|&byte| byte == 0));
+    assert_eq!(work[floor::WORK..], [0xEE; 3]);
+    kept_past(&answer, out)
+}
+
+/// The number and place with which bytes are refused; they must be.
+pub fn refused(bytes: &[u8]) -> (u32, u32) {
+    let answer = planted(bytes).0;
+    assert_ne!(answer.number, 0);
+    assert_eq!(answer.length, 0);
+    (answer.number, answer.place)
+}
+
+/// The same of a model laid out in order.
+pub fn refusal(model: &Model) -> (u32, u32) {
+    refused(&model.in_order())
+}
+
 pub fn layout_form(text: &str) -> (Form, Vec<u8>) {
     let mut out = vec![0xEE; 70_000];
     let answer = layout::rewrite(text.as_bytes(), &mut out);
@@ -160,7 +199,7 @@ pub fn sight_form(layout: &str, vis: &str) -> (Form, Vec<u8>) {
     kept_past(&answer, out)
 }
 
-fn kept_past(answer: &Form, mut out: Vec<u8>) -> (Form, Vec<u8>) {
+pub fn kept_past(answer: &Form, mut out: Vec<u8>) -> (Form, Vec<u8>) {
     let past = out.split_off(answer.length as usize);
     assert!(past.iter().all(|&byte| byte == 0xEE));
     (*answer, out)

@@ -14,10 +14,11 @@ use Rattle.tables.specs.Fixed.{Sized, formOf}
 use Rattle.tables.proofs.Reform.{length-form}
 use Rattle.fixed.specs.Written.{Few}
 use Rattle.fixed.proofs.Parted.{few-numbers}
+use Rattle.fixed.proofs.UpTo.{UpTo, up-start, up-room, up-next, up-done, form-long, copy-room, up-copied}
 use Rattle.corners.specs.Corners.{relinked}
 use Rattle.seams.specs.Mended.{mended}
 use Rattle.mending.specs.Worked.{Worked}
-use Rattle.mending.proofs.Form.{corners-table, adjacency-table, entries-table, ends-table, UpTo, up-start, up-room, up-next, up-done, form-long, copy-room, up-copied}
+use Rattle.mending.proofs.Form.{corners-table, adjacency-table, entries-table, ends-table}
 use Rattle.mending.proofs.write_mended.Statement.{statement}
 use Rattle.mending.proofs.write_mended.Tie as tie
 

@@ -1,0 +1,10 @@
+pub mod Spots
+pub mod Numbered
+pub mod Grown
+pub mod Held
+pub mod Tightest
+pub mod Longest
+pub mod Good
+pub mod Only
+pub mod Kept
+pub mod Accepted

@@ -1,0 +1,4 @@
+pub mod Order
+pub mod Form
+pub mod Answers
+pub mod Calls

@@ -1,0 +1,5 @@
+pub mod Ranges
+pub mod Order
+pub mod Tight
+pub mod Writing
+pub mod Worked

@@ -1,0 +1,4 @@
+pub mod Boxes
+pub mod Planting
+pub mod Sides
+pub mod Ready
