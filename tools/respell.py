@@ -27,7 +27,9 @@ ALIKE = {"is_full"}
 
 
 def snake(name):
-    """The name in snake case; a type's name keeps its capitals."""
+    """The name in snake case; a type's name keeps its capitals, and an operator is no word."""
+    if "◌" in name:
+        return name
     parts = []
     for part in name.split("-"):
         if not re.match(r"[A-Z]", part):

@@ -1,4 +1,6 @@
 // Boxes of f32 by value: what they hold, by plain float comparison.
+#![tactic(auto)]
+
 ghost use Rattle.std.specs.Prelude.{◌≡◌};
 ghost use Rattle.boxes.specs.Box.{between, none_over, holds_point, holds_box, holds_xy, box_of_bits, FiniteBits};
 

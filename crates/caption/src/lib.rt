@@ -1,4 +1,6 @@
 // The caption of a room (41): a part of the visitor's layout text, otherwise of the house text; and the same as a place in one of the two.
+#![tactic(auto)]
+
 ghost use Rattle.std.specs.Prelude.{◌≡◌, ◌≤◌, length};
 ghost use Rattle.text.specs.Scan.{lines};
 ghost use Rattle.caption.specs.Caption.{caption_of, caption_number, caption_at, enters_as, name_place, found_at};

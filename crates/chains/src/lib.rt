@@ -1,4 +1,6 @@
 // Numbers in chains by a key, in lent memory: the last of a chain, the one before it, and one more put in.
+#![tactic(auto)]
+
 ghost use Rattle.std.specs.Prelude.{◌≡◌, ◌+◌, ◌<◌, ◌≤◌, length};
 ghost use Rattle.wire.specs.Bytes.{u16_at};
 ghost use Rattle.chains.specs.Chains.{last_place, before_place, with_last};

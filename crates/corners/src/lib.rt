@@ -1,4 +1,6 @@
 // A floor's corners as they are when mended: read from the file through the map of vertices in the work memory.
+#![tactic(auto)]
+
 ghost use Rattle.std.specs.Prelude.{◌≡◌, ◌+◌, ◌<◌, ◌≤◌, length};
 ghost use Rattle.verdict.specs.Memory.{work_size};
 ghost use Rattle.tables.specs.Header.{RightHeader};

@@ -1,5 +1,7 @@
 // Every call that the exhibit's engine makes, under the names and with the numbers of the C interface. Each passes on to the function of that
 // meaning and promises the same.
+#![tactic(auto)]
+
 ghost use Rattle.std.specs.Prelude.{◌≡◌, length};
 ghost use Rattle.verdict.specs.Output.{form_answer, form_memory};
 ghost use Rattle.floor.specs.Reader.{reader_answer, reader_memory};

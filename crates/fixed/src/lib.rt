@@ -1,4 +1,6 @@
 // The fixed form of a floor, written over the start of an output that the caller lends.
+#![tactic(auto)]
+
 ghost use Rattle.std.specs.Prelude.{◌≡◌, [], ◌∷◌, ◌+◌, ◌*◌, ◌<◌, ◌≤◌, length, take, drop};
 ghost use Rattle.verdict.specs.Output.{over};
 ghost use Rattle.wire.specs.Bytes.{u32_at, put};

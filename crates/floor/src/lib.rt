@@ -1,4 +1,6 @@
 // The reader of a floor: rules 1 to 20 in order, and the counts; and the rewriter, which gives a floor's fixed form.
+#![tactic(auto)]
+
 ghost use Rattle.std.specs.Prelude.{◌≡◌, ◌≤◌, length};
 ghost use Rattle.verdict.specs.Memory.{work_size, SamePast};
 ghost use Rattle.tables.specs.Header.{RightHeader};

@@ -1,5 +1,7 @@
 // The rings of borders of a floor with changed corners, worked out in lent memory without a search: borders are chained by the vertex that they
 // start at.
+#![tactic(auto)]
+
 ghost use Rattle.std.specs.Prelude.{◌≡◌, true, ◌+◌, ◌<◌, ◌≤◌, length};
 ghost use Rattle.verdict.specs.Memory.{work_size};
 ghost use Rattle.wire.specs.Bytes.{u16_at, put_u16};

@@ -1,4 +1,6 @@
 // The floor's header, rules 1 to 6: its length, its first bytes, its counts, and where its tables lie.
+#![tactic(auto)]
+
 ghost use Rattle.std.specs.Prelude.{◌≡◌, ◌+◌, ◌<◌, ◌≤◌, min, max, length};
 ghost use Rattle.verdict.specs.Lowest.{lowest};
 ghost use Rattle.verdict.specs.Verdict.{◌then◌, in_order};

@@ -1,4 +1,6 @@
 // Where the feet stand: the query, and the height of the face that it found, in sixty-fourths, rounded down.
+#![tactic(auto)]
+
 ghost use Rattle.std.specs.Prelude.{◌≡◌, true, ◌<◌, length};
 ghost use Rattle.wire.specs.Signed.{Within};
 ghost use Rattle.slope.specs.Plain.{Near};

@@ -1,4 +1,6 @@
 // The journal's records by bench: how many a bench holds, its latest one, whether that one is blocked, and a record taken out.
+#![tactic(auto)]
+
 ghost use Rattle.std.specs.Prelude.{◌≡◌, not, ◌&&◌, ◌*◌, ◌≤◌, ◌<◌, eqb, length};
 ghost use Rattle.record.specs.Record.{size};
 ghost use Rattle.holding.specs.Held.{stored, is_of, same_field, held, latest, blocked, closed};

@@ -1,5 +1,7 @@
 // The program: one floor from standard input, one line to standard output. Reading and writing are assumed; which bytes the line has
 // is proved.
+#![tactic(auto)]
+
 ghost use Rattle.std.specs.Prelude.{◌≡◌, ◌++◌, ◌+◌, ◌<◌, ◌≤◌, length};
 ghost use Rattle.verdict.specs.Lowest.{lowest};
 ghost use Rattle.printer.specs.Write.{Wrote};

@@ -1,4 +1,6 @@
 // The journal: paint, link, nudge, undo and put-back by two benches, over one floor and one journal that the caller lends.
+#![tactic(auto)]
+
 ghost use Rattle.std.specs.Prelude.{◌≡◌, true, ◌+◌, ◌*◌, ◌≤◌, ◌<◌, length};
 ghost use Rattle.verdict.specs.Verdict.{◌then◌};
 ghost use Rattle.tables.specs.Header.{header_verdict, RightHeader};

@@ -1,4 +1,6 @@
 // Which transition a half-edge keeps, and which are lost: the old edge entries noted in the work memory, one number for each half-edge.
+#![tactic(auto)]
+
 ghost use Rattle.std.specs.Prelude.{◌≡◌, true, ◌⊎◌, ◌+◌, ◌<◌, ◌≤◌, length};
 ghost use Rattle.verdict.specs.Memory.{work_size};
 ghost use Rattle.tables.specs.Header.{RightHeader};

@@ -1,4 +1,6 @@
 // Layouts (LYT), read.
+#![tactic(auto)]
+
 ghost use Rattle.std.specs.Prelude.{◌≡◌, true, ◌≤◌, length};
 ghost use Rattle.names.specs.Name.{is_name};
 ghost use Rattle.layout.specs.Grammar.{names_in, names_of, known_but};

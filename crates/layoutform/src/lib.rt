@@ -1,4 +1,6 @@
 // Layouts (LYT) in their fixed form, as they are and with another name for a room.
+#![tactic(auto)]
+
 ghost use Rattle.std.specs.Prelude.{◌≡◌, length};
 ghost use Rattle.verdict.specs.Output.{form_answer, form_memory};
 ghost use Rattle.layoutform.specs.Form.{parts_of, form_text};

@@ -1,4 +1,6 @@
 // The class of a byte, one for each of the 256 values, the tests that ask for it, and lower case.
+#![tactic(auto)]
+
 ghost use Rattle.std.specs.Prelude.{◌≡◌};
 ghost use Rattle.letters.specs.Class.{within, class_of, is_digit, is_gap, is_end, name_byte};
 ghost use Rattle.letters.specs.Case.{lower};

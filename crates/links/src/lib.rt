@@ -1,4 +1,6 @@
 // The link check: whether every transition of a floor leads to a room of a layout.
+#![tactic(auto)]
+
 ghost use Rattle.std.specs.Prelude.{◌≡◌, ◌<◌, length};
 ghost use Rattle.verdict.specs.Lowest.{lowest};
 ghost use Rattle.tables.specs.Header.{RightHeader};

@@ -1,5 +1,7 @@
 // A floor's corners mended in the work memory: the lowest equal vertex of each vertex, rules 8 and 15 asked of the changed corners, and the
 // partner of each half-edge.
+#![tactic(auto)]
+
 ghost use Rattle.std.specs.Prelude.{◌≡◌, ◌+◌, ◌<◌, ◌≤◌, length};
 ghost use Rattle.verdict.specs.Lowest.{lowest};
 ghost use Rattle.verdict.specs.Verdict.{◌then◌};

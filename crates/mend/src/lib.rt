@@ -1,4 +1,6 @@
 // Mending a floor: corners that are stored twice become one, and adjacency, edges and perimeters are worked out afresh.
+#![tactic(auto)]
+
 ghost use Rattle.std.specs.Prelude.{◌≡◌, ◌≤◌, length};
 ghost use Rattle.verdict.specs.Verdict.{refused, ◌then◌, in_order};
 ghost use Rattle.verdict.specs.Memory.{work_size, SamePast};

@@ -1,4 +1,6 @@
 // The mended floor and the list of changes, written into lent memory from what the work memory holds.
+#![tactic(auto)]
+
 ghost use Rattle.std.specs.Prelude.{◌≡◌, ◌∷◌, ◌+◌, ◌*◌, ◌<◌, ◌≤◌, length};
 ghost use Rattle.verdict.specs.Output.{over};
 ghost use Rattle.wire.specs.Bytes.{u16_bytes, put};

@@ -1,4 +1,6 @@
 // Names (34): what is one, and when two are the same; and whether two words are.
+#![tactic(auto)]
+
 ghost use Rattle.std.specs.Prelude.{◌≡◌, true};
 ghost use Rattle.letters.specs.Class.{name_byte};
 ghost use Rattle.text.specs.Scan.{run};

@@ -1,4 +1,6 @@
 // Counts (rule 36) and numbers (rule 35) of a layout text: read from a word.
+#![tactic(auto)]
+
 ghost use Rattle.std.specs.Prelude.{◌≡◌, true, ◌+◌, ◌-◌, ◌*◌, ◌^◌, ◌<◌, ◌≤◌, length};
 ghost use Rattle.number.specs.Count.{value, is_count};
 ghost use Rattle.number.specs.Number.{number_of, count, says, some, none, minus, right};

@@ -1,4 +1,6 @@
 // Rules 15 and 16: half-edges and their partners, found by chains in the work memory.
+#![tactic(auto)]
+
 ghost use Rattle.std.specs.Prelude.{◌≡◌, ◌+◌, ◌/◌, ◌%◌, ◌<◌, ◌≤◌, length};
 ghost use Rattle.verdict.specs.Lowest.{lowest, any_under};
 ghost use Rattle.verdict.specs.Memory.{work_size, SamePast};

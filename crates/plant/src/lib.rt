@@ -1,4 +1,6 @@
 // A tree for a floor that comes without one (M-113): the call.
+#![tactic(auto)]
+
 ghost use Rattle.std.specs.Prelude.{◌≡◌, ◌+◌, ◌*◌, ◌<◌, ◌≤◌, length};
 ghost use Rattle.verdict.specs.Memory.{work_size, SamePast};
 ghost use Rattle.verdict.specs.Output.{over, form_answer, form_memory};

@@ -1,4 +1,6 @@
 // Printers: bytes, words, names, counts and numbers put from a place on as far as there is room, and the place behind them.
+#![tactic(auto)]
+
 ghost use Rattle.std.specs.Prelude.{◌≡◌, ◌+◌, ◌^◌, ◌<◌, ◌≤◌, [], ◌∷◌, length};
 ghost use Rattle.printer.specs.Write.{Wrote};
 ghost use Rattle.letters.specs.Case.{lowered};

@@ -1,4 +1,6 @@
 // The point query: rules 29 and 30, the lowest face that holds a point, and the number of nodes visited on the way.
+#![tactic(auto)]
+
 ghost use Rattle.std.specs.Prelude.{◌≡◌, ◌&&◌, ◌+◌, min, ◌<◌, ◌≤◌, length};
 ghost use Rattle.verdict.specs.Lowest.{lowest};
 ghost use Rattle.verdict.specs.Verdict.{accepted, ◌then◌};

@@ -1,4 +1,6 @@
 // One record of the journal: its bytes. This file and specs/Record.antt are all that knows a record's form.
+#![tactic(auto)]
+
 ghost use Rattle.std.specs.Prelude.{◌≡◌, ◌+◌, ◌≤◌, length};
 ghost use Rattle.wire.specs.Bytes.{put};
 ghost use Rattle.record.specs.Record.{size, made, flip, record_bytes, record_at};

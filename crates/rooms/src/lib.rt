@@ -1,4 +1,6 @@
 // The rooms of a layout: how many there are, their names, and whether one may have a typed name.
+#![tactic(auto)]
+
 ghost use Rattle.std.specs.Prelude.{◌≡◌};
 ghost use Rattle.layout.specs.Starts.{kept_name, layout_read};
 ghost use Rattle.rooms.specs.Rooms.{rooms_of, name_verdict};

@@ -1,4 +1,6 @@
 // What mending a floor answers: a number, a place, and how many bytes were written to the output and to the list, both 0 on refusal.
+#![tactic(auto)]
+
 #[repr(C)]
 #[derive(Drop)]
 pub struct Mended {

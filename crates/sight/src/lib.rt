@@ -1,4 +1,6 @@
 // Visibility (VIS): read against a layout, and a room's row.
+#![tactic(auto)]
+
 ghost use Rattle.std.specs.Prelude.{◌≡◌, ◌+◌, ◌<◌, ◌≤◌, length};
 ghost use Rattle.layout.specs.Starts.{KeptEntries, layout_read};
 ghost use Rattle.sight.specs.Rows.{sees};

@@ -1,4 +1,6 @@
 // Visibility (VIS) in its fixed form, as it is and with another name for a room.
+#![tactic(auto)]
+
 ghost use Rattle.std.specs.Prelude.{◌≡◌, length};
 ghost use Rattle.verdict.specs.Output.{form_answer, form_memory};
 ghost use Rattle.sightform.specs.Rewrite.{rewritten_sight, renamed_sight, sight_rewrite_verdict, sight_rename_verdict};

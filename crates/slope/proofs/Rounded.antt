@@ -10,7 +10,7 @@ use native.Mathlib.Numerals.{add-one}
 use lib.IntN.{ℤ, pos, negsuc, neg_ℤ, ◌+ℤ◌, ◌-ℤ◌, ◌*ℤ◌, +ℤ_one, -ℤ_one}
 use lib.Signed.{◌≤ℤ◌, ◌<ℤ◌, clash_ℤ}
 use Rattle.whole.proofs.Laws.{*ℤ_negℤ, *ℤ_left_comm}
-use Rattle.whole.proofs.Ring.{var, num, ◌:+◌, ◌:_◌, norm, same, solve}
+use Rattle.whole.proofs.Ring.{var, num, ◌:+◌, ◌:-◌, norm, same, solve}
 use Rattle.whole.proofs.Order.{≤_by, <→≤, gap_<, ≤_or_<, ≤_antisym, ≤_<_trans, negℤ_≤, negℤ_<, pos_≤, pos_<, *ℤ_≤, *ℤ_<, *ℤ_≤_cancel, *ℤ_<_cancel}
 use Rattle.slope.specs.Height.{rounded_down}
 use Rattle.slope.specs.Plain.{RoundedDown}

@@ -1,4 +1,6 @@
 // The height of a triangle's plane over a point that the triangle holds, in whole sixty-fourths, rounded down.
+#![tactic(auto)]
+
 ghost use Rattle.std.specs.Prelude.{◌≡◌, true, pos, nat_abs, ◌*ℤ◌, ◌<ℤ◌};
 ghost use Rattle.wire.specs.Signed.{Within};
 ghost use Rattle.slope.specs.Height.{rounded_down, beside, lifted, turned, height_at};

@@ -1,4 +1,6 @@
 // The nine tables of a floor: where they and their entries lie, and the words of entries.
+#![tactic(auto)]
+
 ghost use Rattle.std.specs.Prelude.{◌≡◌, ◌+◌, ◌*◌, ◌<◌, ◌≤◌, length, get_or};
 ghost use Rattle.wire.specs.Bytes.{u32_at};
 ghost use Rattle.tables.specs.Tables.{table, table_at, width, span_of, InHeader, entry_at};

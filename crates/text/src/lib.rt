@@ -1,4 +1,6 @@
 // Layout text, all that knows no grammar: rules 31 and 32, lines and words.
+#![tactic(auto)]
+
 ghost use Rattle.std.specs.Prelude.{◌≡◌, true, [], ◌+◌, ◌-◌, ◌<◌, length, drop, get_or};
 ghost use Rattle.verdict.specs.Lowest.{lowest};
 ghost use Rattle.letters.specs.Class.{is_gap, is_end};

@@ -3,7 +3,7 @@ use mathlib.Core.Path.{◌≡◌, ap₂, ◌∙◌}
 use mathlib.Core.List.{[], ◌∷◌}
 use lib.IntN.{ℤ, neg_ℤ, ◌+ℤ◌, ◌-ℤ◌, ◌*ℤ◌}
 use Rattle.triangle.specs.Triangle.{cross}
-use Rattle.whole.proofs.Ring.{Expr, var, ◌:+◌, ◌:_◌, ◌:*◌, neg, norm, same, solve}
+use Rattle.whole.proofs.Ring.{Expr, var, ◌:+◌, ◌:-◌, ◌:*◌, neg, norm, same, solve}
 
 -- the cross of three points as an expression
 abbrev cross_of : Expr → Expr → Expr → Expr → Expr → Expr → Expr

@@ -1,4 +1,6 @@
 // The exact triangle test of document 01: whether a triangle seen from above holds a point, in whole sixty-fourths.
+#![tactic(auto)]
+
 ghost use Rattle.std.specs.Prelude.{◌≡◌};
 ghost use Rattle.wire.specs.Signed.{Within};
 ghost use Rattle.triangle.specs.Triangle.{cross, all_left, all_right, sides, in_triangle};

@@ -1,4 +1,6 @@
 // What every rule is said with: answers joined in order, a rewriting refused, and the work memory with its marks.
+#![tactic(auto)]
+
 ghost use Rattle.std.specs.Prelude.{◌≡◌, ◌≤◌, length};
 ghost use Rattle.verdict.specs.Lowest.{all_under};
 ghost use Rattle.verdict.specs.Verdict.{rule, ◌then◌};

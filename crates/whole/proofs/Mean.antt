@@ -6,7 +6,7 @@ use Prim.Native.Nat.{ℕ, ◌+◌, ◌<◌}
 use lib.IntN.{ℤ, pos, neg_ℤ, ◌+ℤ◌, ◌-ℤ◌, ◌*ℤ◌, *ℤ_comm}
 use lib.Signed.{le_z, ◌≤ℤ◌}
 use Rattle.whole.proofs.Laws.{one_*ℤ}
-use Rattle.whole.proofs.Ring.{Expr, var, ◌:+◌, ◌:_◌, ◌:*◌, neg, norm, same, solve}
+use Rattle.whole.proofs.Ring.{Expr, var, ◌:+◌, ◌:-◌, ◌:*◌, neg, norm, same, solve}
 use Rattle.whole.proofs.Order.{≤_yes, ≤_is, ≤→less, less→≤, +ℤ_≤, pos_≥0, pos_>0, *ℤ_≥0, *ℤ_≥0_cancel}
 
 -- p is a mean of a, b, c: natural weights, not all 0

@@ -13,7 +13,7 @@ use lib.IntN.{ℤ, pos, negsuc, neg_ℤ, nat_abs, sub_ℕ, ◌+ℤ◌, ◌-ℤ�
 use lib.Signed.{le_z, lt_z, ◌≤ℤ◌, ◌<ℤ◌, lt_z_no, ≤ℤ_refl, clash_ℤ, yes_non_neg, pos-nat_abs}
 use Rattle.verdict.proofs.Bools.{clash, test, T_true, true_T}
 use Rattle.whole.proofs.Laws.{same_of_less}
-use Rattle.whole.proofs.Ring.{var, num, ◌:+◌, ◌:_◌, ◌:*◌, neg, norm, same, solve}
+use Rattle.whole.proofs.Ring.{var, num, ◌:+◌, ◌:-◌, ◌:*◌, neg, norm, same, solve}
 
 -- ---- tests and facts
 

@@ -13,13 +13,13 @@ use Rattle.whole.proofs.Laws.{+ℤ_left_comm, *ℤ_+ℤ_right, *ℤ_+ℤ_left, n
 
 -- ---- expressions
 
-infixl 6 ◌:+◌ ◌:_◌
+infixl 6 ◌:+◌ ◌:-◌
 infixl 7 ◌:*◌
 pub data Expr : Type 0 where
   var : ℕ → Expr
   num : ℤ → Expr
   ◌:+◌ : Expr → Expr → Expr
-  ◌:_◌ : Expr → Expr → Expr
+  ◌:-◌ : Expr → Expr → Expr
   ◌:*◌ : Expr → Expr → Expr
   neg : Expr → Expr
 

@@ -1,4 +1,6 @@
 // Numbers of four bytes and of two, little-endian, in a caller's bytes: read and put; the word for none; and numbers in a wider type.
+#![tactic(auto)]
+
 ghost use Rattle.std.specs.Prelude.{◌≡◌, ◌+◌, ◌≤◌, ◌<◌, length};
 ghost use Rattle.wire.specs.Bytes.{u32_at, four_bytes, put_u32, u16_at, put_u16};
 

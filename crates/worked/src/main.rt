@@ -1,5 +1,7 @@
 // The vectors beyond document 01's checked examples: each is run, and what is written is compared with the stored output. The text cases are
 // read from standard input.
+#![tactic(auto)]
+
 ghost use Rattle.std.specs.Prelude.{◌<◌};
 
 use libc::{STDIN_FILENO, STDOUT_FILENO};

@@ -10,26 +10,26 @@ use Rattle.verdict.proofs.Memory.{cleared_none, cleared_more}
 use Rattle.verdict.proofs.clear_to.Statement.{statement}
 use Rattle.verdict.proofs.clear_to.Tie as tie
 
-abbrev invariant_loop : tie.invariant_loop
+abbrev invariant_loop : tie.invariant-loop-k
 invariant_loop work₀ n k₀ work k = (k ≤ n) × (length work ≡ length work₀) × (work ≡ cleared_to k work₀)
 
-abbrev decreases_loop : tie.decreases_loop
+abbrev decreases_loop : tie.decreases-loop-k
 decreases_loop work₀ n k₀ work k = n - k
 
-loop_holds : tie.Need-loop-init invariant_loop decreases_loop
+loop_holds : tie.Need-loop-k-init invariant_loop decreases_loop
 loop_holds c = (omega arith, refl, cleared_none _)
 
-loop_again : tie.Need-loop-preserved invariant_loop decreases_loop
+loop_again : tie.Need-loop-k-preserved invariant_loop decreases_loop
 loop_again c =
-    let l = c.before.loop in
+    let l = c.before.loop-k in
     (omega arith, simp length-set l.invariant.1, ap (λ (w : List ℕ). set w l.k 0) l.invariant.2 ∙ cleared_more l.k _ (omega arith))
 
-same_length : tie.Need-same-length invariant_loop decreases_loop
-same_length c = c.before.loop.invariant.1
+same_length : tie.Need-shape_of-work invariant_loop decreases_loop
+same_length c = c.before.loop-k.invariant.1
 
 returns : tie.Need-returns invariant_loop decreases_loop
 returns c =
-    let l = c.before.loop in
+    let l = c.before.loop-k in
     let a = c.before.before.args in
     let e : l.k ≡ a.n = omega arith in
     l.invariant.2 ∙ ap (λ (k : ℕ). cleared_to k a.work.now) e

@@ -5,11 +5,11 @@ use Rattle.verdict.proofs.Verdict.{then_next, then_stop}
 use Rattle.verdict.proofs.then_rule.Statement.{statement}
 use Rattle.verdict.proofs.then_rule.Tie as tie
 
-returns : tie.Need-returns
-returns c = sym (then_stop _ c.if1.true _)
+returns : tie.Need-returns-then-so-ne0
+returns c = sym (then_stop _ c.if-so-ne0.true _)
 
-returns_2 : tie.Need-returns-2
-returns_2 c = c.first-rule.ensures ∙ sym (then_next _ _ c.before.if1.false)
+returns_2 : tie.Need-returns
+returns_2 c = c.first_rule.ensures ∙ sym (then_next _ _ c.before.if-so-ne0.false)
 
 pub then_rule_spec : {M : Type 1} → statement M
 then_rule_spec = tie.close (tie.spec returns (search rules) returns_2)

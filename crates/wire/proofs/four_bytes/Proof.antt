@@ -8,8 +8,8 @@ use Rattle.wire.proofs.four_bytes.Statement.{statement}
 use Rattle.wire.proofs.four_bytes.Tie as tie
 
 -- the byte that weighs 256
-second : (c : tie.After-wide2) → let a = c.before.before.before.before.before.args in c.wide2.result ≡ get_or a.bytes.now (a.at + 1) 0
-second c = c.wide2.ensures.0
+second : (c : tie.After-wide-b) → let a = c.before.before.before.before.before.args in c.wide-b.result ≡ get_or a.bytes.now (a.at + 1) 0
+second c = c.wide-b.ensures.0
 
 returns : tie.Need-returns
 returns c = omega (arith, second c.before.before.before.before)

@@ -6,7 +6,7 @@ use borrow.Author.Rules.{rules}
 use Rattle.wire.proofs.put_u16.Statement.{statement}
 use Rattle.wire.proofs.put_u16.Tie as tie
 
-second : tie.Need-slice-write-bytes-2
+second : tie.Need-bounds-bytes-at-2
 second c = simp length-set (omega arith)
 
 returns : tie.Need-returns

@@ -6,13 +6,13 @@ use borrow.Author.Rules.{rules}
 use Rattle.wire.proofs.put_u32.Statement.{statement}
 use Rattle.wire.proofs.put_u32.Tie as tie
 
-second : tie.Need-slice-write-bytes-2
+second : tie.Need-bounds-bytes-at-2
 second c = simp length-set (omega arith)
 
-third : tie.Need-slice-write-bytes-3
+third : tie.Need-bounds-bytes-at-3
 third c = simp length-set (omega arith)
 
-fourth : tie.Need-slice-write-bytes-4
+fourth : tie.Need-bounds-bytes-at-4
 fourth c = simp length-set (omega arith)
 
 returns : tie.Need-returns

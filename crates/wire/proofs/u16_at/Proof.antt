@@ -8,8 +8,8 @@ use Rattle.wire.proofs.u16_at.Tie as tie
 returns : tie.Need-returns
 unfolding u16_at
 returns c =
-    let a = c.before.before.wide.ensures in
-    let b = c.wide2.ensures in
+    let a = c.before.before.wide-low.ensures in
+    let b = c.wide-high.ensures in
     (omega (arith, a.0, b.0), omega (arith, a.1, b.1))
 
 pub u16_at_spec : {M : Type 1} → statement M

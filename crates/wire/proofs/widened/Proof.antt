@@ -9,7 +9,7 @@ use Rattle.wire.proofs.Signed.{wider}
 use Rattle.wire.proofs.widened.Statement.{statement}
 use Rattle.wire.proofs.widened.Tie as tie
 
-cast_result : tie.Need-overflow-cast-result
+cast_result : tie.Need-overflow_cast-result
 cast_result c =
     let h = subst (λ (z : ℤ). SFits w64 z) (sym (to_z-of_z w32 c.args.z c.ranges.z)) (wider c.args.z c.ranges.z) in
     search (rules, h)
