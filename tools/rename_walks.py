@@ -55,7 +55,8 @@ def turned(text, of, said):
         dotted, name = m.group(1), m.group(2)
         key = plain(name)
         if key.startswith("Need-"):
-            new = goals.get(key[5:]) or by_new.get(key[5:])
+            short = re.sub("^(overflow|nonzero|slice|offset)-", "", key[5:])
+            new = goals.get(key[5:]) or by_new.get(key[5:]) or goals.get(short)
             if new is None:
                 said.append(f"goal {name}")
                 return m.group(0)
@@ -70,20 +71,29 @@ def turned(text, of, said):
 
     text = re.sub(r"(?<![^\s(])(tie|\w+-lts)\.(" + WORD + ")", of_tie, text)
 
-    def of_field(m):
-        name = m.group(1)
-        new = steps.get(plain(name))
-        if not new:
-            return m.group(0)
-        if len(new) > 1:
-            said.append(f"step {name}: {sorted(new)}")
-            return m.group(0)
-        return "." + next(iter(new))
+    def of_path(m):
+        """Along a path: a step stands after a place, and what follows it is the step's own."""
+        parts, out, at_place = m.group(2).split(".")[1:], [], True
+        for name in parts:
+            key = re.sub("-lem$", "", plain(name))
+            if at_place and key in steps:
+                if len(steps[key]) > 1:
+                    said.append(f"step {name}: {sorted(steps[key])}")
+                    out.append(name)
+                else:
+                    out.append(next(iter(steps[key])))
+                at_place = False
+            else:
+                out.append(name)
+                at_place = at_place and name == "before"
+        # A place has the steps before it, and so no way back need be named in front of one.
+        text = "." + ".".join(out)
+        return m.group(1) + re.sub(r"^(?:\.before)+(?=\.(?!before(?:\.|$)))", "", text)
 
     lines = []
     for line in text.split("\n"):
         if not line.startswith("use ") and not line.startswith("--"):
-            line = re.sub(r"(?<=[\w)\]'₀-₉])\.(" + WORD + ")", of_field, line)
+            line = re.sub(r"([\w'₀-₉)\]-])((?:\.(?:" + WORD + "))+)", of_path, line)
         lines.append(line)
     return "\n".join(lines)
 
