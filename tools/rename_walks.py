@@ -1,9 +1,10 @@
 #!/usr/bin/env python3
 """Gives the steps, places and goals that a Proof.antt names the names that today's Rattle gives them.
 
-usage: tools/rename_walks.py NAMES.json CRATE_FOLDER [FUNCTION ..]
+usage: tools/rename_walks.py NAMES.json CRATE_FOLDER COMMIT [FUNCTION ..]
 
 NAMES.json is what `rt check --generated DIR --old-names` writes for the crate: the old name and the new one of each step, place and goal.
+COMMIT has the proofs as they were before the kit's scripts: an old name is read there, since the scripts respell some.
 It rewrites proofs/**/Proof.antt in place, and says which names it could not tell. Run it once for each function.
 """
 
@@ -11,9 +12,13 @@ import glob
 import json
 import os
 import re
+import subprocess
 import sys
 
 WORD = r"[^\s(){}.;,@\"«»\[\]\\`]+"
+NEED = re.compile(r"(?<![^\s(])(tie|\w+-lts)\s?\.Need-(" + WORD + ")")
+PATH = re.compile(r"([\w'₀-₉)\]-])((?:\.(?:" + WORD + "))+)")
+OLD_FIELD = re.compile(r"(?<=[\s\w'₀-₉)\]-])\.(" + WORD + ")")
 
 
 def plain(name):
@@ -25,8 +30,7 @@ def entries(names):
     out = {}
     for module, of in json.load(open(names)).items():
         if ".Lts" in module:
-            path = module.split(".", 1)[1]
-            path = path.split(".Lts")[0]
+            path = module.split(".", 1)[1].split(".Lts")[0]
             out.setdefault(path, []).append(of)
     return out
 
@@ -46,17 +50,35 @@ def tables(of):
     return steps, places, goals, loops
 
 
-def turned(text, of, said):
+def code(text):
+    """The lines without imports and comments."""
+    return [l for l in text.split("\n") if not l.startswith("use ") and not l.lstrip().startswith("--")]
+
+
+def turned(text, was, of, said):
     steps, places, goals, loops = tables(of)
-    # A script may have given the goal its new words already.
     by_new = {plain(new): new for new in goals.values()}
+    old_needs = [m.group(2) for m in NEED.finditer("\n".join(code(was)))]
+    if len(old_needs) != len(NEED.findall("\n".join(code(text)))):
+        said.append(f"goals: {len(old_needs)} before, now others")
+        old_needs = None
+    of_old = re.sub(r"(?<![^\s(])(tie|\w+-lts)\s?\." + WORD, "", "\n".join(code(was)))
+    of_now = re.sub(r"(?<![^\s(])(tie|\w+-lts)\s?\." + WORD, "", "\n".join(code(text)))
+    old_fields = [m.group(1) for m in OLD_FIELD.finditer(of_old)]
+    now_fields = [m.group(1) for m in OLD_FIELD.finditer(of_now)]
+    if len(old_fields) != len(now_fields):
+        said.append(f"fields: {len(old_fields)} before, {len(now_fields)} now")
+        old_fields = None
+    counts = {"need": 0, "field": 0}
 
     def of_tie(m):
         dotted, name = m.group(1), m.group(2)
         key = plain(name)
         if key.startswith("Need-"):
             short = re.sub("^(overflow|nonzero|slice|offset)-", "", key[5:])
-            new = goals.get(key[5:]) or by_new.get(key[5:]) or goals.get(short)
+            old = plain(old_needs[counts["need"]]) if old_needs else key[5:]
+            counts["need"] += 1
+            new = goals.get(old) or goals.get(key[5:]) or by_new.get(key[5:]) or goals.get(short)
             if new is None:
                 said.append(f"goal {name}")
                 return m.group(0)
@@ -69,13 +91,14 @@ def turned(text, of, said):
             said.append(f"place {name}")
         return m.group(0)
 
-    text = re.sub(r"(?<![^\s(])(tie|\w+-lts)\.(" + WORD + ")", of_tie, text)
-
     def of_path(m):
         """Along a path: a step stands after a place, and what follows it is the step's own."""
         parts, out, at_place = m.group(2).split(".")[1:], [], True
         for name in parts:
-            key = re.sub("-lem$", "", plain(name))
+            key = plain(re.sub("_lem$", "", name))
+            if old_fields:
+                key = plain(old_fields[counts["field"]])
+                counts["field"] += 1
             if at_place and key in steps:
                 if len(steps[key]) > 1:
                     said.append(f"step {name}: {sorted(steps[key])}")
@@ -92,14 +115,22 @@ def turned(text, of, said):
 
     lines = []
     for line in text.split("\n"):
-        if not line.startswith("use ") and not line.startswith("--"):
-            line = re.sub(r"([\w'₀-₉)\]-])((?:\.(?:" + WORD + "))+)", of_path, line)
+        if not line.startswith("use ") and not line.lstrip().startswith("--"):
+            ties = []
+
+            def aside(m):
+                ties.append(of_tie(m))
+                return f"\x00{len(ties) - 1}\x01"
+
+            line = re.sub(r"(?<![^\s(])(tie|\w+-lts)\.(" + WORD + ")", aside, line)
+            line = PATH.sub(of_path, line)
+            line = re.sub("\x00(\\d+)\x01", lambda m: ties[int(m.group(1))], line)
         lines.append(line)
     return "\n".join(lines)
 
 
 def main(argv):
-    names, folder, only = argv[0], argv[1], argv[2:]
+    names, folder, commit, only = argv[0], argv[1], argv[2], argv[3:]
     by_path = entries(names)
     for path in sorted(glob.glob(folder + "/proofs/**/Proof.antt", recursive=True)):
         fn = os.path.relpath(os.path.dirname(path), folder + "/proofs").replace("/", ".")
@@ -110,7 +141,9 @@ def main(argv):
             continue
         said = []
         text = open(path, encoding="utf-8").read()
-        new = turned(text, by_path[fn], said)
+        at = os.path.relpath(os.path.realpath(path), subprocess.check_output(["git", "rev-parse", "--show-toplevel"], text=True).strip())
+        was = subprocess.run(["git", "show", f"{commit}:{at}"], capture_output=True, text=True).stdout
+        new = turned(text, was, by_path[fn], said)
         if new != text:
             open(path, "w", encoding="utf-8").write(new)
         for it in sorted(set(said)):

@@ -67,6 +67,10 @@ sum_same f s t A B C a b c P Q p q =
 -- the sum of two finite floats is worked out on any fractions of one denominator that they equal
 pub add_at : (f : Format) (x y : Float) (s t : Bool) (a b c : ℕ) → 0 < c → HasValue x s a c → HasValue y t b c → add f x y ≡ sum f s a t b c
 unfolding add
+add_at f lib.Ieee.nan y s t a b c Q v w = elim v [ ]
+add_at f (lib.Ieee.inf _) y s t a b c Q v w = elim v [ ]
+add_at f (fin s' m e) lib.Ieee.nan s t a b c Q v w = elim w [ ]
+add_at f (fin s' m e) (lib.Ieee.inf _) s t a b c Q v w = elim w [ ]
 add_at f (fin s' m e) (fin t' n d) s t a b c Q v w =
     ap (λ (z : Bool). sum f z (m * up e * down d) t' (n * up d * down e) (down e * down d)) v.0
     ∙ ap (λ (z : Bool). sum f s (m * up e * down d) z (n * up d * down e) (down e * down d)) w.0

@@ -42,6 +42,8 @@ on_grid_lem (fin s m e) h =
 -- what has the value n / 64 is on the grid, and scales to n
 value_on : (x : Float) (s : Bool) (n : ℕ) → n ≤ 65536 → HasValue x s n 64 → (on_grid x ≡ true) × (scaled x ≡ signed s n)
 unfolding on_grid scaled
+value_on nan s n h v = elim v [ ]
+value_on (inf _) s n h v = elim v [ ]
 value_on (fin t m e) s n h v =
     let q : m * up e * 64 / down e ≡ n = ap (λ (y : ℕ). y / down e) v.1 ∙ mul-div_cancel n (down_pos e) in
     let r : m * up e * 64 % down e ≡ 0 = ap (λ (y : ℕ). y % down e) v.1 ∙ mul-mod_left n (down e) in
@@ -168,6 +170,8 @@ add_grid {x} z g h = go z h ∙ ap (λ (y : ℤ). grid_float (y +ℤ z)) (sym (s
 -- ---- the step: z as an f32, divided by 64
 div_at : (f : Format) (x : Float) (s : Bool) (a : ℕ) → HasValue x s a 1 → div f x (fin false 1 (pos 6)) ≡ round f s a 64
 unfolding div
+div_at f nan s a v = elim v [ ]
+div_at f (inf _) s a v = elim v [ ]
 div_at f (fin t m e) s a v =
     ap (λ (b : Bool). round f b (m * up e * 1) (64 * down e)) (like t ∙ v.0)
     ∙ round_same f s (m * up e * 1) (64 * down e) a 64 (mul-pos (lit< tt) (down_pos e)) (lit< tt)
@@ -194,6 +198,10 @@ unfolding to_bits
 to_bits_at f s m e n p = ap (λ (x : ℕ). cond s (top f) 0 + (size x - prec f) * hid f + x / 2 ^ (size x - prec f)) p
 
 same_bits : (f : Format) (x y : Float) (s : Bool) (a c : ℕ) → 0 < c → HasValue x s a c → HasValue y s a c → to_bits f x ≡ to_bits f y
+same_bits f nan y s a c C v w = elim v [ ]
+same_bits f (inf _) y s a c C v w = elim v [ ]
+same_bits f (fin t m e) nan s a c C v w = elim w [ ]
+same_bits f (fin t m e) (inf _) s a c C v w = elim w [ ]
 same_bits f (fin t m e) (fin u n d) s a c C v w =
     let k : m * up e * down d ≡ n * up d * down e = eq_of_mul-eq-mul_right c C (m * up e * down d) (n * up d * down e)
     (mul_right_comm (m * up e) (down d) c ∙ ap (λ (z : ℕ). z * down d) v.1 ∙ mul_right_comm a (down e) (down d) ∙ ap (λ (z : ℕ). z * down e) (sym w.1) ∙ mul_right_comm (n * up d) c (down e)) in

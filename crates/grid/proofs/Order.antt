@@ -88,6 +88,10 @@ across x e f a c d h = mul-mul-mul_comm x f c d ∙ ap (λ (y : ℕ). y * (f * d
 
 pub le_values : (x y : Float) (s t : Bool) (a c b d : ℕ) → 0 < c → 0 < d → HasValue x s a c → HasValue y t b d → le x y ≡ le_z (signed s (a * d)) (signed t (b * c))
 unfolding le lt eq
+le_values nan y s t a c b d C D v w = elim v [ ]
+le_values (inf _) y s t a c b d C D v w = elim v [ ]
+le_values (fin s' m e) nan s t a c b d C D v w = elim w [ ]
+le_values (fin s' m e) (inf _) s t a c b d C D v w = elim w [ ]
 le_values (fin s' m e) (fin t' n f) s t a c b d C D v w =
     ap (λ (z : Bool). le_s z (m * up e * down f) t' (n * up f * down e)) v.0
     ∙ ap (λ (z : Bool). le_s s (m * up e * down f) z (n * up f * down e)) w.0

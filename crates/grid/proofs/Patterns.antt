@@ -42,6 +42,8 @@ GridIs x b n = (on_grid x ≡ b) × (size64 x ≡ n)
 
 pub grid_at : (x : Float) (s : Bool) (a c p d : ℕ) → 0 < c → 0 < d → HasValue x s a c → a * 64 * d ≡ p * c → GridIs x (eqb (p % d) 0 && leb (p / d) 65536) (p / d)
 unfolding on_grid size64
+grid_at nan s a c p d C B v h = elim v [ ]
+grid_at (inf _) s a c p d C B v h = elim v [ ]
 grid_at (fin t m e) s a c p d C B v h =
     let P = m * up e * 64 in
     let k : P * d ≡ p * down e = eq_of_mul-eq-mul_right c C (P * d) (p * down e)
@@ -184,6 +186,8 @@ mid_bits b h k = rw (of_bits_is b) (mid (leb 2147483648 b) (expo b) (b % 8388608
 -- ---- the sign
 sign_of : (x : Float) (s : Bool) (a c : ℕ) → HasValue x s a c → scaled x ≡ signed s (size64 x)
 unfolding scaled size64
+sign_of nan s a c v = elim v [ ]
+sign_of (inf _) s a c v = elim v [ ]
 sign_of (fin t m e) s a c v = ap (λ (b : Bool). signed b (m * up e * 64 / down e)) v.0
 
 ones_sign : (s b : Bool) → scaled (cond b (inf s) nan) ≡ signed s (size64 (cond b (inf s) nan))

@@ -10,11 +10,11 @@ use Rattle.grid.proofs.Grid.{step_is, step_in}
 use Rattle.grid.proofs.float_of.Statement.{statement}
 use Rattle.grid.proofs.float_of.Tie as tie
 
-int_to_float_result : tie.Need-int-to-float-result
-int_to_float_result c = subst (λ (z : ℤ). T (in_float binary32 z)) (sym (to_z-of_z w64 _ c.before.ranges.z)) (step_in _ (leb-true _ _ c.before.requires))
+int_to_float_result : tie.Need-int_to_float-result
+int_to_float_result c = subst (λ (z : ℤ). T (in_float binary32 z)) (sym (to_z-of_z w64 _ c.ranges.z)) (step_in _ (leb-true _ _ c.requires))
 
 returns : tie.Need-returns
-returns c = ap (λ (z : ℤ). div binary32 (of_int binary32 z) (of_bits binary32 0x4280_0000)) (to_z-of_z w64 _ c.before.ranges.z) ∙ step_is _ (leb-true _ _ c.before.requires)
+returns c = ap (λ (z : ℤ). div binary32 (of_int binary32 z) (of_bits binary32 0x4280_0000)) (to_z-of_z w64 _ c.ranges.z) ∙ step_is _ (leb-true _ _ c.requires)
 
 pub float_of_spec : {M : Type 1} → statement M
 float_of_spec = tie.close (tie.spec int_to_float_result returns)

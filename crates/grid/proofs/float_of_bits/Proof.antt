@@ -6,7 +6,7 @@ use Rattle.grid.proofs.Finite.{finite_no_nan}
 use Rattle.grid.proofs.float_of_bits.Statement.{statement}
 use Rattle.grid.proofs.float_of_bits.Tie as tie
 
-float_from_bits_result : tie.Need-float-from-bits-result
+float_from_bits_result : tie.Need-float_from_bits-result
 unfolding nan_bits
 float_from_bits_result c = let h = finite_no_nan _ c.requires in search (rules, h)
 

@@ -15,37 +15,37 @@ use Rattle.grid.proofs.may_nudge.Statement.{statement}
 use Rattle.grid.proofs.may_nudge.Tie as tie
 
 -- what the first test says
-asked : (c : tie.After-is-within) → c.is_Within.result ≡ within largest_step c.before.args.n
-asked c = c.is_Within.ensures ∙ ap (within largest_step) (to_z-of_z w64 _ c.before.ranges.n)
+asked : (c : tie.After-is_within) → c.is_within.result ≡ within largest_step c.args.n
+asked c = c.is_within.ensures ∙ ap (within largest_step) (to_z-of_z w64 _ c.ranges.n)
 
-returns : tie.Need-returns
-returns c = sym (no_step _ c.before.before.args.n (sym (asked c.before) ∙ not-true _ c.if1.true))
+returns : tie.Need-returns-then-not-is_within
+returns c = sym (no_step _ c.args.n (sym (asked c.before) ∙ not-true _ c.if-not-is_within.true))
 
-step : (c : tie.Else1) → within largest_step c.before.before.args.n ≡ true
-step c = sym (asked c.before) ∙ not-false _ c.if1.false
+step : (c : tie.Else-not-is_within) → within largest_step c.args.n ≡ true
+step c = sym (asked c.before) ∙ not-false _ c.if-not-is_within.false
 
-returns_2 : tie.Need-returns-2
-returns_2 c = sym (no_grid _ _ (sym (on_is _ _ c.before.before.scaled-of.ensures) ∙ not-true _ c.if2.true))
+returns_2 : tie.Need-returns-then-not-z
+returns_2 c = sym (no_grid _ _ (sym (on_is _ _ c.scaled_of-z.ensures) ∙ not-true _ c.if-not-z.true))
 
-on : (c : tie.Else2) → on_grid (of_bits binary32 c.before.before.before.before.before.args.b) ≡ true
-on c = sym (on_is _ _ c.before.before.scaled-of.ensures) ∙ not-false _ c.if2.false
+on : (c : tie.Else-not-z) → on_grid (of_bits binary32 c.args.b) ≡ true
+on c = sym (on_is _ _ c.scaled_of-z.ensures) ∙ not-false _ c.if-not-z.false
 
 -- the sum as the machine works it out
-sum : (c : tie.After-scaled-of) → Reads 66176 (read c.scaled-of.result.v +ℤ read c.before.before.before.args.n) (c.scaled-of.result.v +ℤ c.before.before.before.args.n)
-sum c = plus (param (v_small _ _ c.scaled-of.ensures) tt) (param (within_bound largest_step c.before.before.before.args.n (step c.before)) tt)
+sum : (c : tie.After-scaled_of-z) → Reads 66176 (read c.scaled_of-z.result.v +ℤ read c.args.n) (c.scaled_of-z.result.v +ℤ c.args.n)
+sum c = plus (param (v_small _ _ c.scaled_of-z.ensures) tt) (param (within_bound largest_step c.args.n (step c.before)) tt)
 
-add_is_within : tie.Need-overflow-add-is-within
+add_is_within : tie.Need-overflow_add-z
 add_is_within c = fits (sum c.before.before.before.before) tt
 
 -- and on the grid it is that of the scaled number
-sum_is : (c : tie.Else2) → read (read c.before.before.scaled-of.result.v +ℤ read c.before.before.before.before.before.args.n)
-    ≡ scaled (of_bits binary32 c.before.before.before.before.before.args.b) +ℤ c.before.before.before.before.before.args.n
-sum_is c = (stored (sum c.before.before) tt).same ∙ ap (λ (v : ℤ). v +ℤ c.before.before.before.before.before.args.n) (v_is _ _ c.before.before.scaled-of.ensures (on c))
+sum_is : (c : tie.Else-not-z) → read (read c.scaled_of-z.result.v +ℤ read c.args.n)
+    ≡ scaled (of_bits binary32 c.args.b) +ℤ c.args.n
+sum_is c = (stored (sum c.before.before) tt).same ∙ ap (λ (v : ℤ). v +ℤ c.args.n) (v_is _ _ c.scaled_of-z.ensures (on c))
 
-returns_3 : tie.Need-returns-3
+returns_3 : tie.Need-returns
 returns_3 c =
     let s = c.before.before.before in
-    c.is-within2.ensures ∙ ap (within 65536) (sum_is s) ∙ sym (by_sum _ s.before.before.before.before.before.args.n (step s.before.before.before) (on s))
+    c.is_within-2.ensures ∙ ap (within 65536) (sum_is s) ∙ sym (by_sum _ s.args.n (step s.before.before.before) (on s))
 
 pub may_nudge_spec : {M : Type 1} → statement M
 may_nudge_spec =

@@ -4,11 +4,11 @@ use Rattle.tables.proofs.Reading.{sized_of}
 use Rattle.nodes.proofs.face_count.Statement.{statement}
 use Rattle.nodes.proofs.face_count.Tie as tie
 
-count_of_requires : tie.Need-count-of-requires
-count_of_requires c κs = (c.before.requires, omega arith)
+count_of_requires : tie.Need-count_of-requires
+count_of_requires c κs = (c.requires, omega arith)
 
 returns : tie.Need-returns
-returns c = (c.count_of.ensures.0, omega (arith, c.count_of.ensures.0, (sized_of _ c.before.before.requires).faces))
+returns c = (c.count_of.ensures.0, omega (arith, c.count_of.ensures.0, (sized_of _ c.requires).faces))
 
 pub face_count_spec : {M : Type 1} → statement M
 face_count_spec = tie.close (tie.spec count_of_requires returns)

@@ -10,26 +10,26 @@ use Rattle.nodes.specs.Nodes.{neither}
 use Rattle.nodes.proofs.first_neither.Statement.{statement}
 use Rattle.nodes.proofs.first_neither.Tie as tie
 
-abbrev invariant_loop : tie.invariant_loop
+abbrev invariant_loop : tie.invariant-loop-n
 invariant_loop bytes nodes n₀ n = lowest n (neither (parts_of bytes)) ≡ n
 
-abbrev decreases_loop : tie.decreases_loop
+abbrev decreases_loop : tie.decreases-loop-n
 decreases_loop bytes nodes n₀ n = nodes - n
 
-loop_holds : tie.Need-loop-init invariant_loop decreases_loop
+loop_holds : tie.Need-loop-n-init invariant_loop decreases_loop
 loop_holds c = lowest_none _
 
-returns : tie.Need-returns invariant_loop decreases_loop
+returns : tie.Need-returns-then-is_neither invariant_loop decreases_loop
 returns c =
-    (sym (lowest_hit _ _ _ c.before.before.before.loop.invariant (rw (← c.before.is-neither.ensures) c.if1.true) (search rules)), omega arith)
+    (sym (lowest_hit _ _ _ c.loop-n.invariant (rw (← c.is_neither.ensures) c.if-is_neither.true) (search rules)), omega arith)
 
-loop_again : tie.Need-loop-preserved invariant_loop decreases_loop
-loop_again c = lowest_more _ _ c.before.before.before.loop.invariant (rw (← c.before.is-neither.ensures) c.if1.false)
+loop_again : tie.Need-loop-n-preserved invariant_loop decreases_loop
+loop_again c = lowest_more _ _ c.loop-n.invariant (rw (← c.is_neither.ensures) c.if-is_neither.false)
 
-returns_2 : tie.Need-returns-2 invariant_loop decreases_loop
+returns_2 : tie.Need-returns invariant_loop decreases_loop
 returns_2 c =
-    let e = c.before.before.node-count.ensures.0 in
-    (e ∙ lowest_done _ _ _ c.before.loop.invariant (omega arith), search rules)
+    let e = c.node_count-nodes.ensures.0 in
+    (e ∙ lowest_done _ _ _ c.loop-n.invariant (omega arith), search rules)
 
 pub first_neither_spec : {M : Type 1} → statement M
 first_neither_spec =

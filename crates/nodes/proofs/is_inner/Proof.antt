@@ -9,7 +9,7 @@ use Rattle.nodes.specs.Nodes.{face_of, left_of, is_plane, is_inner}
 use Rattle.nodes.proofs.is_inner.Statement.{statement}
 use Rattle.nodes.proofs.is_inner.Tie as tie
 
-returns : tie.Need-returns
+returns : tie.Need-returns-then-face_of-ne-NONE
 unfolding is_inner
 returns c =
     let s = c.before.before.before in
@@ -17,13 +17,13 @@ returns c =
     let n = s.args.n in
     simp (ne_eqb (face_of p n) none32 (λ (e : face_of p n ≡ none32). omega arith))
 
-returns_2 : tie.Need-returns-2
+returns_2 : tie.Need-returns-then-not-is_plane
 unfolding is_inner
 returns_2 c =
-    let plane = ap is_plane (sym c.before.before.plane-of.ensures) ∙ sym c.before.is-plane.ensures in
-    simp (plane ∙ not-true _ c.if2.true, and_no)
+    let plane = ap is_plane (sym c.plane_of.ensures) ∙ sym c.is_plane.ensures in
+    simp (plane ∙ not-true _ c.if-not-is_plane.true, and_no)
 
-returns_3 : tie.Need-returns-3
+returns_3 : tie.Need-returns-then-nodes-left_of
 unfolding is_inner
 returns_3 c =
     let s = c.before.before.before.before.before.before.before.before.before in
@@ -31,7 +31,7 @@ returns_3 c =
     let n = s.args.n in
     simp (le-ltb (left_of p n) p.nodes (omega arith), and_no)
 
-returns_4 : tie.Need-returns-4
+returns_4 : tie.Need-returns
 unfolding is_inner
 returns_4 c =
     let at-node-count = c.before.before.before in
@@ -41,13 +41,13 @@ returns_4 c =
     let s = at-plane-of.before.before.before.before in
     let p = parts_of s.args.bytes.now in
     let n = s.args.n in
-    let plane = ap is_plane (sym at-plane-of.plane-of.ensures) ∙ sym at-is-plane.is-plane.ensures in
+    let plane = ap is_plane (sym at-plane-of.plane_of.ensures) ∙ sym at-is-plane.is_plane.ensures in
     simp (
       eq-eqb (face_of p n) none32 (omega arith),
-      plane ∙ not-false _ at-if2.if2.false,
+      plane ∙ not-false _ at-if2.if-not-is_plane.false,
       lt-ltb (left_of p n) p.nodes (omega arith),
       c.right_of.ensures,
-      at-node-count.node-count.ensures.0,
+      at-node-count.node_count-nodes.ensures.0,
     ) refl
 
 pub is_inner_spec : {M : Type 1} → statement M

@@ -10,7 +10,7 @@ use Rattle.nodes.proofs.is_inner_node.Tie as tie
 
 returns : tie.Need-returns
 unfolding nodes_of
-returns c = ap (λ (x : ℕ). eqb x none32) c.face-of.ensures
+returns c = ap (λ (x : ℕ). eqb x none32) c.face_of.ensures
 
 pub is_inner_node_spec : {M : Type 1} → statement M
 is_inner_node_spec = tie.close (tie.spec (search rules) returns)

@@ -9,7 +9,7 @@ use Rattle.nodes.specs.Nodes.{face_of, plane_of, left_of, is_leaf}
 use Rattle.nodes.proofs.is_leaf.Statement.{statement}
 use Rattle.nodes.proofs.is_leaf.Tie as tie
 
-returns : tie.Need-returns
+returns : tie.Need-returns-then-face_count-face_of
 unfolding is_leaf
 returns c =
     let s = c.before.before.before.before in
@@ -17,7 +17,7 @@ returns c =
     let n = s.args.n in
     simp (le-ltb (face_of p n) p.faces (omega arith))
 
-returns_2 : tie.Need-returns-2
+returns_2 : tie.Need-returns-then-plane_of-ne0
 unfolding is_leaf
 returns_2 c =
     let s = c.before.before.before.before.before.before in
@@ -25,7 +25,7 @@ returns_2 c =
     let n = s.args.n in
     simp (ne_eqb (plane_of p n) 0 (λ (e : plane_of p n ≡ 0). omega arith), and_no)
 
-returns_3 : tie.Need-returns-3
+returns_3 : tie.Need-returns-then-left_of-ne-NONE
 unfolding is_leaf
 returns_3 c =
     let s = c.before.before.before.before.before.before.before.before in
@@ -33,7 +33,7 @@ returns_3 c =
     let n = s.args.n in
     simp (ne_eqb (left_of p n) none32 (λ (e : left_of p n ≡ none32). omega arith), and_no)
 
-returns_4 : tie.Need-returns-4
+returns_4 : tie.Need-returns
 unfolding is_leaf
 returns_4 c =
     let s = c.before.before.before.before.before.before.before.before.before in

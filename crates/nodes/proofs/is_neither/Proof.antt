@@ -5,13 +5,13 @@ use Rattle.nodes.specs.Nodes.{neither}
 use Rattle.nodes.proofs.is_neither.Statement.{statement}
 use Rattle.nodes.proofs.is_neither.Tie as tie
 
-returns : tie.Need-returns
+returns : tie.Need-returns-then-is_leaf
 unfolding neither
-returns c = simp (sym c.before.is_IsLeaf.ensures ∙ c.if1.true)
+returns c = simp (sym c.is_IsLeaf.ensures ∙ c.if-is_leaf.true)
 
-returns_2 : tie.Need-returns-2
+returns_2 : tie.Need-returns
 unfolding neither
-returns_2 c = simp (c.is-inner.ensures, sym c.before.before.is_IsLeaf.ensures ∙ c.before.if1.false)
+returns_2 c = simp (c.is_inner.ensures, sym c.is_IsLeaf.ensures ∙ c.if-is_leaf.false)
 
 pub is_neither_spec : {M : Type 1} → statement M
 is_neither_spec = tie.close (tie.spec (search rules) returns (search rules) returns_2)

@@ -26,10 +26,10 @@ returns c =
     let second = c.before.before in
     let first = second.before.before in
     let count = first.before.before.before in
-    let n = count.node-count.ensures.0 in
-    next_in _ _ (next_in _ _ (next refl (count_by n first.before.before.face-count.ensures.0 first.before.nodes-for.ensures) first.then_rule.ensures)
-    (tested 11 108 second.before.is-root-stray.ensures) second.then-rule2.ensures)
-    (neither_by _ n c.before.first-neither.ensures.0) c.then-rule3.ensures
+    let n = count.node_count-nodes.ensures.0 in
+    next_in _ _ (next_in _ _ (next refl (count_by n first.face_count.ensures.0 first.nodes_for-right.ensures) first.then_rule-a.ensures)
+    (tested 11 108 second.is_root_stray.ensures) second.then_rule-b.ensures)
+    (neither_by _ n c.first_neither-n.ensures.0) c.then_rule.ensures
 
 pub then_nodes_spec : {M : Type 1} → statement M
 then_nodes_spec =

@@ -5,7 +5,7 @@ use Rattle.pairs.proofs.Halves.{adjacent_word}
 use Rattle.pairs.proofs.adjacent_of.Statement.{statement}
 use Rattle.pairs.proofs.adjacent_of.Tie as tie
 
-word_at_requires : tie.Need-word-at-requires
+word_at_requires : tie.Need-word_at-requires
 word_at_requires c κs = let s = c.before in (s.requires.0, omega arith, omega (arith, s.requires.1))
 
 returns : tie.Need-returns

@@ -9,7 +9,7 @@ use Rattle.pairs.proofs.from_of.Tie as tie
 returns : tie.Need-returns
 returns c = (c.word_at.ensures ∙ from_word _ _, omega arith)
 
-word_at_requires : tie.Need-word-at-requires
+word_at_requires : tie.Need-word_at-requires
 word_at_requires c κs = let s = c.before in (s.requires.0, omega arith, corner_among s.args.bytes.now s.requires.0 s.args.h s.requires.1)
 
 pub from_of_spec : {M : Type 1} → statement M

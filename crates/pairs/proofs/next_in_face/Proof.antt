@@ -4,10 +4,10 @@ use native.Mathlib.Omega.{arith}
 use Rattle.pairs.proofs.next_in_face.Statement.{statement}
 use Rattle.pairs.proofs.next_in_face.Tie as tie
 
-returns : tie.Need-returns
+returns : tie.Need-returns-then-h-eq2
 returns c = (omega arith, omega arith)
 
-returns_2 : tie.Need-returns-2
+returns_2 : tie.Need-returns
 returns_2 c = (omega arith, omega arith)
 
 pub next_in_face_spec : {M : Type 1} → statement M

@@ -6,16 +6,16 @@ use Rattle.pairs.proofs.Group.{repeat_answers}
 use Rattle.pairs.proofs.runs_verdict.Statement.{statement}
 use Rattle.pairs.proofs.runs_verdict.Tie as tie
 
-cast_first_rule : tie.Need-overflow-cast-first-rule
+cast_first_rule : tie.Need-overflow_cast-twice
 cast_first_rule c =
     let found = c.before.before in
-    omega (arith, lowest_within _ _ _ found.first-repeat.ensures.0, found.before.before.halves_of.ensures)
+    omega (arith, lowest_within _ _ _ found.first_repeat-twice.ensures.0, found.halves_of-n.ensures)
 
 returns : tie.Need-returns
 returns c =
     let found = c.before.before.before in
-    let n = found.before.before.halves_of.ensures.0 in
-    (repeat_answers _ _ _ _ n found.first-repeat.ensures.0 c.first-rule.ensures, found.first-repeat.ensures.1.1)
+    let n = found.halves_of-n.ensures.0 in
+    (repeat_answers _ _ _ _ n found.first_repeat-twice.ensures.0 c.first_rule.ensures, found.first_repeat-twice.ensures.1.1)
 
 pub runs_verdict_spec : {M : Type 1} → statement M
 runs_verdict_spec = tie.close (tie.spec (search rules) (λ c κs. search rules) cast_first_rule (search rules) (search rules) returns)

@@ -13,49 +13,49 @@ use Rattle.pairs.proofs.wrong_adjacent.Statement.{statement}
 use Rattle.pairs.proofs.wrong_adjacent.Tie as tie
 
 -- seen from where the entry and the ends are read: the start, the floor's parts, and that there are few half-edges
-abbrev start : tie.After-to-of → tie.Start
+abbrev start : tie.After-to_of-b → tie.Start
 start c = c.before.before.before.before.before.before
 
-abbrev parts : tie.After-to-of → Parts
+abbrev parts : tie.After-to_of-b → Parts
 parts c = parts_of (start c).args.bytes.now
 
-few : (c : tie.After-to-of) → halves (parts c) ≤ 12288
+few : (c : tie.After-to_of-b) → halves (parts c) ≤ 12288
 few c = omega (arith, few_walkable (start c).args.bytes.now (start c).requires.0.0)
 
-returns : tie.Need-returns
+returns : tie.Need-returns-then-own
 returns c =
     let ends = c.before.before in
     let p = parts ends in
-    rw (c.is-run.ensures, ends.before.before.before.halves_of.ensures.0, ends.to-of.ensures.0, ends.before.from-of.ensures.0)
-    (claims_none p (few ends) (start ends).args.h (sym ends.before.before.adjacent-of.ensures ∙ c.before.if1.true))
+    rw (c.is_run.ensures, ends.halves_of-n.ensures.0, ends.to_of-b.ensures.0, ends.from_of-a.ensures.0)
+    (claims_none p (few ends) (start ends).args.h (sym ends.adjacent_of-own.ensures ∙ c.if-own.true))
 
-returns_2 : tie.Need-returns-2
+returns_2 : tie.Need-returns-then-g-n
 returns_2 c =
     let ends = c.before.before.before in
     let p = parts ends in
-    let own = ends.before.before.adjacent-of.ensures in
-    rw (c.runs_so.ensures, own, ends.to-of.ensures.0, ends.before.from-of.ensures.0)
-    (claims_half p (few ends) (start ends).args.h (start ends).requires.0.2 (omega (arith, own, ends.before.before.before.halves_of.ensures)))
+    let own = ends.adjacent_of-own.ensures in
+    rw (c.runs_so.ensures, own, ends.to_of-b.ensures.0, ends.from_of-a.ensures.0)
+    (claims_half p (few ends) (start ends).args.h (start ends).requires.0.2 (omega (arith, own, ends.halves_of-n.ensures)))
 
-returns_3 : tie.Need-returns-3
+returns_3 : tie.Need-returns
 returns_3 c =
     let ends = c.before.before in
-    let own = ends.before.before.adjacent-of.ensures in
-    claims_more (parts ends) (few ends) (start ends).args.h (omega (arith, own, ends.before.before.before.halves_of.ensures)) (λ e. c.before.if1.false (own ∙ e))
+    let own = ends.adjacent_of-own.ensures in
+    claims_more (parts ends) (few ends) (start ends).args.h (omega (arith, own, ends.halves_of-n.ensures)) (λ e. c.if-own.false (own ∙ e))
 
-is_run_requires : tie.Need-is-run-requires
+is_run_requires : tie.Need-is_run-requires
 is_run_requires c κs =
     let ends = c.before in
-    let count = ends.before.before.before.halves_of.ensures.0 in
+    let count = ends.halves_of-n.ensures.0 in
     let s = start ends in (
-      (s.pre.0.0, omega (arith, count), ends.to-of.ensures.1, ends.before.from-of.ensures.1),
+      (s.pre.0.0, omega (arith, count), ends.to_of-b.ensures.1, ends.from_of-a.ensures.1),
       (s.pre.1.0, subst (λ (k : ℕ). Chained chains (chain (parts ends)) s.args.work.now k) (sym count) s.pre.1.1),
     )
 
-runs_so_requires : tie.Need-runs-so-requires
+runs_so_requires : tie.Need-runs_so-requires
 runs_so_requires c κs =
     let ends = c.before.before in
-    ((start ends).requires.0.0, omega (arith, ends.before.before.before.halves_of.ensures))
+    ((start ends).requires.0.0, omega (arith, ends.halves_of-n.ensures))
 
 pub wrong_adjacent_spec : {M : Type 1} → statement M
 wrong_adjacent_spec = tie.close (tie.spec (λ c κs. search rules) (λ c κs. search rules) (λ c κs. search rules) (λ c κs. search rules) is_run_requires returns (search rules) runs_so_requires returns_2 returns_3)

@@ -10,21 +10,21 @@ use borrow.Author.Rules.{rules}
 use Rattle.tables.proofs.entry_at.Statement.{statement}
 use Rattle.tables.proofs.entry_at.Tie as tie
 
-where_it_lies : (c : tie.After-start-of)
-    → c.start_of.result + c.before.before.before.args.i * c.before.table_at.result.size
-    ≡ entry_at c.before.before.before.args.bytes.now (table_at floor_tables c.before.before.before.args.k) c.before.before.before.args.i
+where_it_lies : (c : tie.After-start_of)
+    → c.start_of.result + c.args.i * c.table_at-t.result.size
+    ≡ entry_at c.args.bytes.now (table_at floor_tables c.args.k) c.args.i
 unfolding entry_at
-where_it_lies c = rw (c.start_of.ensures.0, c.before.table_at.ensures.0)
+where_it_lies c = rw (c.start_of.ensures.0, c.table_at-t.ensures.0)
 
-lies_in : (c : tie.After-start-of)
-    → entry_at c.before.before.before.args.bytes.now (table_at floor_tables c.before.before.before.args.k) c.before.before.before.args.i
-    + (table_at floor_tables c.before.before.before.args.k).size ≤ length c.before.before.before.args.bytes.now
-lies_in c = (floor_entry _ c.before.before.before.requires.0 _ c.before.before.before.requires.1 _ c.before.before.before.requires.2).1
+lies_in : (c : tie.After-start_of)
+    → entry_at c.args.bytes.now (table_at floor_tables c.args.k) c.args.i
+    + (table_at floor_tables c.args.k).size ≤ length c.args.bytes.now
+lies_in c = (floor_entry _ c.requires.0 _ c.requires.1 _ c.requires.2).1
 
-mul_result : tie.Need-overflow-mul-result
+mul_result : tie.Need-overflow_mul-result
 mul_result c = omega (arith, where_it_lies c, lies_in c)
 
-add_result : tie.Need-overflow-add-result
+add_result : tie.Need-overflow_add-result
 add_result c = omega (arith, where_it_lies c, lies_in c)
 
 returns : tie.Need-returns

@@ -7,7 +7,7 @@ use Rattle.tables.proofs.Reading.{count_is, place_is}
 use Rattle.tables.proofs.place_of.Statement.{statement}
 use Rattle.tables.proofs.place_of.Tie as tie
 
-entry_at_requires : tie.Need-entry-at-requires
+entry_at_requires : tie.Need-entry_at-requires
 entry_at_requires c κs =
     let s = c.before in
     (s.requires.0, s.requires.1, rw (count_is s.args.bytes.now s.args.k s.requires.1) at s.requires.2)
@@ -18,7 +18,7 @@ returns c =
     let b = s.args.bytes.now in
     let e = place_is b s.args.k s.requires.1 s.args.i s.requires.2 s.args.e s.requires.3 in
     let words = (floor_in_header s.args.k s.requires.1).size_words in
-    (omega (arith, e, c.entry_at_lem.ensures.0), omega (arith, words, c.entry_at_lem.ensures.1), omega (arith, words, c.entry_at_lem.ensures.1, (header_met b s.requires.0).short))
+    (omega (arith, e, c.entry_at.ensures.0), omega (arith, words, c.entry_at.ensures.1), omega (arith, words, c.entry_at.ensures.1, (header_met b s.requires.0).short))
 
 pub place_of_spec : {M : Type 1} → statement M
 place_of_spec = tie.close (tie.spec entry_at_requires (search rules) (search rules) returns)

@@ -6,7 +6,7 @@ use Rattle.tables.proofs.Right.{header_met}
 use Rattle.tables.proofs.root_of.Statement.{statement}
 use Rattle.tables.proofs.root_of.Tie as tie
 
-u32_at_requires : tie.Need-u32-at-requires
+u32_at_requires : tie.Need-u32_at-requires
 u32_at_requires c κs = let s = c.before in omega (arith, (header_met s.args.bytes.now s.requires).long)
 
 returns : tie.Need-returns

@@ -10,28 +10,28 @@ use Rattle.tables.proofs.Writing.{place_inside}
 use Rattle.tables.proofs.word_at.Statement.{statement}
 use Rattle.tables.proofs.word_at.Tie as tie
 
-where_it_lies : (c : tie.After-start-of)
-    → c.start_of.result + 4 * c.before.before.args.j ≡ word_place c.before.before.args.bytes.now c.before.before.args.k c.before.before.args.j
+where_it_lies : (c : tie.After-start_of)
+    → c.start_of.result + 4 * c.args.j ≡ word_place c.args.bytes.now c.args.k c.args.j
 unfolding word_place
 where_it_lies c = rw c.start_of.ensures.0
 
-among : (c : tie.After-start-of) → c.before.before.args.j < words_in c.before.before.args.bytes.now c.before.before.args.k
+among : (c : tie.After-start_of) → c.args.j < words_in c.args.bytes.now c.args.k
 among c = let s = c.before.before in rw (count_is s.args.bytes.now s.args.k s.requires.1) at s.requires.2
 
-lies_in : (c : tie.After-start-of) → c.start_of.result + 4 * c.before.before.args.j + 4 ≤ length c.before.before.args.bytes.now
+lies_in : (c : tie.After-start_of) → c.start_of.result + 4 * c.args.j + 4 ≤ length c.args.bytes.now
 lies_in c = let s = c.before.before in omega (arith, where_it_lies c, (place_inside _ s.requires.0 _ s.requires.1 _ (among c) 0 (omega arith)).1)
 
-mul_u32_at : tie.Need-overflow-mul-u32-at
+mul_u32_at : tie.Need-overflow_mul-j
 mul_u32_at c = omega (arith, lies_in c)
 
-add_u32_at : tie.Need-overflow-add-u32-at
+add_u32_at : tie.Need-overflow_add-start_of
 add_u32_at c = omega (arith, lies_in c)
 
-u32_at_requires : tie.Need-u32-at-requires
+u32_at_requires : tie.Need-u32_at-requires
 u32_at_requires c κs = omega (arith, lies_in c)
 
 returns : tie.Need-returns
-returns c = let s = c.before.before.before in read_at _ c.u32-at.ensures (where_it_lies c.before) (word_is _ _ s.requires.1 _ (among c.before))
+returns c = let s = c.before.before.before in read_at _ c.u32_at.ensures (where_it_lies c.before) (word_is _ _ s.requires.1 _ (among c.before))
 
 pub word_at_spec : {M : Type 1} → statement M
 word_at_spec = tie.close (tie.spec (search rules) mul_u32_at add_u32_at u32_at_requires returns)

@@ -7,7 +7,7 @@ use Rattle.tables.proofs.word_of.Tie as tie
 returns : tie.Need-returns
 returns c =
     let s = c.before.before.before in
-    word_read _ _ s.requires.1 _ s.requires.2 _ s.requires.3 c.u32-at.ensures c.before.place_of.ensures.0
+    word_read _ _ s.requires.1 _ s.requires.2 _ s.requires.3 c.u32_at.ensures c.place_of-at.ensures.0
 
 pub word_of_spec : {M : Type 1} → statement M
 word_of_spec = tie.close (tie.spec (λ c κs. search rules) (search rules) returns)

@@ -4,19 +4,19 @@ use borrow.Author.Rules.{rules}
 use Rattle.text.proofs.is_bad.Statement.{statement}
 use Rattle.text.proofs.is_bad.Tie as tie
 
-returns : tie.Need-returns
-returns c = bad_refused _ _ _ c.before.class_of.ensures c.if1.true
+returns : tie.Need-returns-then-k-eq0
+returns c = bad_refused _ _ _ c.class_of-k.ensures c.if-k-eq0.true
 
-returns_2 : tie.Need-returns-2
-returns_2 c = bad_plain _ _ _ c.before.before.class_of.ensures c.before.if1.false c.if2.true
+returns_2 : tie.Need-returns-then-k-ne8
+returns_2 c = bad_plain _ _ _ c.class_of-k.ensures c.if-k-eq0.false c.if-k-ne8.true
 
-returns_3 : tie.Need-returns-3
+returns_3 : tie.Need-returns-then-i-s
 returns_3 c =
     let d = c.before.before.before in
-    bad_return _ _ _ d.before.before.class_of.ensures _ d.if2.false c.class-of2.ensures
+    bad_return _ _ _ d.class_of-k.ensures _ d.if-k-ne8.false c.class_of.ensures
 
-returns_4 : tie.Need-returns-4
-returns_4 c = bad_last _ _ _ c.before.before.before.class_of.ensures c.before.if2.false c.if3.false
+returns_4 : tie.Need-returns
+returns_4 c = bad_last _ _ _ c.class_of-k.ensures c.if-k-ne8.false c.if-i-s.false
 
 pub is_bad_spec : {M : Type 1} → statement M
 is_bad_spec =

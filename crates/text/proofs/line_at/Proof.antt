@@ -10,19 +10,19 @@ use borrow.Author.Rules.{rules}
 use Rattle.text.proofs.line_at.Statement.{statement}
 use Rattle.text.proofs.line_at.Tie as tie
 
-returns : tie.Need-returns
-returns c = sym (line_past _ _ c.before.if1.true)
+returns : tie.Need-returns-then-s-at
+returns c = sym (line_past _ _ c.if-s-at.true)
 
-part_result_end : tie.Need-slice-bounds-result-end
+part_result_end : tie.Need-slice_bounds-result-end
 part_result_end c =
-    let z = c.before.before.before in
-    (piece_within is_end z.args.s.now z.args.at _ c.line-end.ensures (omega arith)).1
+    let z = c.before.before in
+    (piece_within is_end z.args.s.now z.args.at _ c.line_end-e.ensures (omega arith)).1
 
-returns_2 : tie.Need-returns-2
+returns_2 : tie.Need-returns
 unfolding line_at
 returns_2 c =
     let z = c.before.before.before.before in
-    let k : c.before.line-end.result - z.args.at ≡ run (apart is_end) (drop z.args.at z.args.s.now) = omega (arith, c.before.line-end.ensures) in
+    let k : c.line_end-e.result - z.args.at ≡ run (apart is_end) (drop z.args.at z.args.s.now) = omega (arith, c.line_end-e.ensures) in
     ap (λ (n : ℕ). take n (drop z.args.at z.args.s.now)) k
 
 pub line_at_spec : {M : Type 1} → statement M

@@ -10,27 +10,27 @@ use borrow.Author.Rules.{rules}
 use Rattle.text.proofs.line_end.Statement.{statement}
 use Rattle.text.proofs.line_end.Tie as tie
 
-abbrev invariant_loop : tie.invariant_loop
+abbrev invariant_loop : tie.invariant-loop-lf
 invariant_loop s at i₀ i = i + run (apart is_end) (drop i s) ≡ at + run (apart is_end) (drop at s)
 
-abbrev decreases_loop : tie.decreases_loop
+abbrev decreases_loop : tie.decreases-loop-lf
 decreases_loop s at i₀ i = length s - i
 
-loop_holds : tie.Need-loop-init invariant_loop decreases_loop
+loop_holds : tie.Need-loop-lf-init invariant_loop decreases_loop
 loop_holds c = refl
 
-returns : tie.Need-returns invariant_loop decreases_loop
+returns : tie.Need-returns-then-is_end invariant_loop decreases_loop
 returns c =
     let t = c.before.before.before in
-    sym (run_off (apart is_end) _ _ t.loop-test.true (ap not (sym c.before.is-end.ensures ∙ c.if1.true))) ∙ t.before.loop.invariant
+    sym (run_off (apart is_end) _ _ t.loop-lf-test.true (ap not (sym c.is_end.ensures ∙ c.if-is_end.true))) ∙ t.loop-lf.invariant
 
-loop_again : tie.Need-loop-preserved invariant_loop decreases_loop
+loop_again : tie.Need-loop-lf-preserved invariant_loop decreases_loop
 loop_again c =
     let t = c.before.before.before in
-    sym (run_on (apart is_end) _ _ t.loop-test.true (ap not (sym c.before.is-end.ensures ∙ c.if1.false))) ∙ t.before.loop.invariant
+    sym (run_on (apart is_end) _ _ t.loop-lf-test.true (ap not (sym c.is_end.ensures ∙ c.if-is_end.false))) ∙ t.loop-lf.invariant
 
-returns_2 : tie.Need-returns-2 invariant_loop decreases_loop
-returns_2 c = sym (run_end (apart is_end) _ _ c.loop-test.false) ∙ c.before.loop.invariant
+returns_2 : tie.Need-returns invariant_loop decreases_loop
+returns_2 c = sym (run_end (apart is_end) _ _ c.loop-lf-test.false) ∙ c.loop-lf.invariant
 
 pub line_end_spec : {M : Type 1} → statement M
 line_end_spec =

@@ -9,27 +9,27 @@ use borrow.Author.Rules.{rules}
 use Rattle.text.proofs.skip_gap.Statement.{statement}
 use Rattle.text.proofs.skip_gap.Tie as tie
 
-abbrev invariant_loop : tie.invariant_loop
+abbrev invariant_loop : tie.invariant-loop-a
 invariant_loop l at i₀ i = i + run is_gap (drop i l) ≡ at + run is_gap (drop at l)
 
-abbrev decreases_loop : tie.decreases_loop
+abbrev decreases_loop : tie.decreases-loop-a
 decreases_loop l at i₀ i = length l - i
 
-loop_holds : tie.Need-loop-init invariant_loop decreases_loop
+loop_holds : tie.Need-loop-a-init invariant_loop decreases_loop
 loop_holds c = refl
 
-loop_again : tie.Need-loop-preserved invariant_loop decreases_loop
+loop_again : tie.Need-loop-a-preserved invariant_loop decreases_loop
 loop_again c =
     let t = c.before.before.before in
-    sym (run_on is_gap _ _ t.loop-test.true (sym c.before.is-gap.ensures ∙ c.if1.true)) ∙ t.before.loop.invariant
+    sym (run_on is_gap _ _ t.loop-a-test.true (sym c.is_gap.ensures ∙ c.if-is_gap.true)) ∙ t.loop-a.invariant
 
-returns : tie.Need-returns invariant_loop decreases_loop
+returns : tie.Need-returns-else-is_gap invariant_loop decreases_loop
 returns c =
     let t = c.before.before.before in
-    sym (run_off is_gap _ _ t.loop-test.true (sym c.before.is-gap.ensures ∙ c.if1.false)) ∙ t.before.loop.invariant
+    sym (run_off is_gap _ _ t.loop-a-test.true (sym c.is_gap.ensures ∙ c.if-is_gap.false)) ∙ t.loop-a.invariant
 
-returns_2 : tie.Need-returns-2 invariant_loop decreases_loop
-returns_2 c = sym (run_end is_gap _ _ c.loop-test.false) ∙ c.before.loop.invariant
+returns_2 : tie.Need-returns invariant_loop decreases_loop
+returns_2 c = sym (run_end is_gap _ _ c.loop-a-test.false) ∙ c.loop-a.invariant
 
 pub skip_gap_spec : {M : Type 1} → statement M
 skip_gap_spec =

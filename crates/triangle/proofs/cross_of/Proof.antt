@@ -15,26 +15,26 @@ module _ {a o b q : ℤ} (ha : Within 65536 a) (ho : Within 65536 o) (hb : Withi
   prod : Reads 17179869184 (read (read a -ℤ read o) *ℤ read (read b -ℤ read q)) ((a -ℤ o) *ℤ (b -ℤ q))
   prod = times (stored (diff ha ho) tt) (stored (diff hb hq) tt)
 
-sub_left : tie.Need-overflow-sub-left
+sub_left : tie.Need-overflow_sub-left
 sub_left c = fits (diff c.requires.2 c.requires.0) tt
 
-sub_left_2 : tie.Need-overflow-sub-left-2
+sub_left_2 : tie.Need-overflow_sub-left-2
 sub_left_2 c = fits (diff c.requires.5 c.requires.1) tt
 
-mul_left : tie.Need-overflow-mul-left
+mul_left : tie.Need-overflow_mul-left
 mul_left c = fits (prod c.requires.2 c.requires.0 c.requires.5 c.requires.1) tt
 
-sub_right : tie.Need-overflow-sub-right
+sub_right : tie.Need-overflow_sub-right
 sub_right c = fits (diff c.requires.3 c.requires.1) tt
 
-sub_right_2 : tie.Need-overflow-sub-right-2
+sub_right_2 : tie.Need-overflow_sub-right-2
 sub_right_2 c = fits (diff c.requires.4 c.requires.0) tt
 
-mul_right : tie.Need-overflow-mul-right
+mul_right : tie.Need-overflow_mul-right
 mul_right c = fits (prod c.requires.3 c.requires.1 c.requires.4 c.requires.0) tt
 
 -- either product less either: which is taken from which is for the answer to say
-sub_result : tie.Need-overflow-sub-result
+sub_result : tie.Need-overflow_sub-result
 sub_result c =
     let left = stored (prod c.requires.2 c.requires.0 c.requires.5 c.requires.1) tt in
     let right = stored (prod c.requires.3 c.requires.1 c.requires.4 c.requires.0) tt in

@@ -12,28 +12,28 @@ use Rattle.triangle.proofs.in_triangle.Tie as tie
 four : {a a' d d' e e' f f' : ℤ} → a ≡ a' → d ≡ d' → e ≡ e' → f ≡ f' → sides a d e f ≡ sides a' d' e' f'
 four p q r t = rw (p, q, r, t)
 
-cross_of_requires : tie.Need-cross-of-requires
+cross_of_requires : tie.Need-cross_of-area-requires
 cross_of_requires c κs = let h = c.requires in passed h.0 h.1 h.2 h.3 h.4 h.5
 
-cross_of_requires_2 : tie.Need-cross-of-requires-2
-cross_of_requires_2 c κs = let h = c.before.requires in passed h.0 h.1 h.2 h.3 h.6 h.7
+cross_of_requires_2 : tie.Need-cross_of-d-requires
+cross_of_requires_2 c κs = let h = c.requires in passed h.0 h.1 h.2 h.3 h.6 h.7
 
-cross_of_requires_3 : tie.Need-cross-of-requires-3
-cross_of_requires_3 c κs = let h = c.before.before.requires in passed h.2 h.3 h.4 h.5 h.6 h.7
+cross_of_requires_3 : tie.Need-cross_of-e-requires
+cross_of_requires_3 c κs = let h = c.requires in passed h.2 h.3 h.4 h.5 h.6 h.7
 
-cross_of_requires_4 : tie.Need-cross-of-requires-4
-cross_of_requires_4 c κs = let h = c.before.before.before.requires in passed h.4 h.5 h.0 h.1 h.6 h.7
+cross_of_requires_4 : tie.Need-cross_of-f-requires
+cross_of_requires_4 c κs = let h = c.requires in passed h.4 h.5 h.0 h.1 h.6 h.7
 
 returns : tie.Need-returns
 unfolding in_triangle
 returns c =
-    let h = c.before.before.before.before.before.requires in
-    let area = c.before.before.before.before.cross-of in
-    let d = c.before.before.before.cross-of2 in
-    let e = c.before.before.cross-of3 in
-    let f = c.before.cross-of4 in
-    c.sides-of.ensures
-    ∙ args4 sides _ _ _ _ (sfits_of area.type-inv) (sfits_of d.type-inv) (sfits_of e.type-inv) (sfits_of f.type-inv)
+    let h = c.requires in
+    let area = c.cross_of-area in
+    let d = c.cross_of-d in
+    let e = c.cross_of-e in
+    let f = c.cross_of-f in
+    c.sides_of.ensures
+    ∙ args4 sides _ _ _ _ (sfits_of area.type_inv) (sfits_of d.type_inv) (sfits_of e.type_inv) (sfits_of f.type_inv)
     ∙ four
     (crossed h.0 h.1 h.2 h.3 h.4 h.5 area.ensures).same
     (crossed h.0 h.1 h.2 h.3 h.6 h.7 d.ensures).same
