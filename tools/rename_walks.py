@@ -16,7 +16,7 @@ import subprocess
 import sys
 
 WORD = r"[^\s(){}.;,@\"«»\[\]\\`]+"
-NEED = re.compile(r"(?<![^\s(])(tie|\w+-lts)\s?\.Need-(" + WORD + ")")
+NEED = re.compile(r"(?<![^\s(])(tie|[\w-]+-lts)\s?\.Need-(" + WORD + ")")
 PATH = re.compile(r"([\w'₀-₉)\]-])((?:\.(?:" + WORD + "))+)")
 OLD_FIELD = re.compile(r"(?<=[\s\w'₀-₉)\]-])\.(" + WORD + ")")
 
@@ -62,8 +62,8 @@ def turned(text, was, of, said):
     if len(old_needs) != len(NEED.findall("\n".join(code(text)))):
         said.append(f"goals: {len(old_needs)} before, now others")
         old_needs = None
-    of_old = re.sub(r"(?<![^\s(])(tie|\w+-lts)\s?\." + WORD, "", "\n".join(code(was)))
-    of_now = re.sub(r"(?<![^\s(])(tie|\w+-lts)\s?\." + WORD, "", "\n".join(code(text)))
+    of_old = re.sub(r"(?<![^\s(])(tie|[\w-]+-lts)\s?\." + WORD, "", "\n".join(code(was)))
+    of_now = re.sub(r"(?<![^\s(])(tie|[\w-]+-lts)\s?\." + WORD, "", "\n".join(code(text)))
     old_fields = [m.group(1) for m in OLD_FIELD.finditer(of_old)]
     now_fields = [m.group(1) for m in OLD_FIELD.finditer(of_now)]
     if len(old_fields) != len(now_fields):
@@ -122,7 +122,7 @@ def turned(text, was, of, said):
                 ties.append(of_tie(m))
                 return f"\x00{len(ties) - 1}\x01"
 
-            line = re.sub(r"(?<![^\s(])(tie|\w+-lts)\.(" + WORD + ")", aside, line)
+            line = re.sub(r"(?<![^\s(])(tie|[\w-]+-lts)\.(" + WORD + ")", aside, line)
             line = PATH.sub(of_path, line)
             line = re.sub("\x00(\\d+)\x01", lambda m: ties[int(m.group(1))], line)
         lines.append(line)

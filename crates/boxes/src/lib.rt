@@ -7,7 +7,7 @@ ghost use Rattle.boxes.specs.Box.{between, none_over, holds_point, holds_box, ho
 use grid::float_of_bits;
 
 // A node's box.
-#[derive(Drop)]
+#[derive(Clone, Copy)]
 pub struct Box {
     pub least_x: f32,
     pub least_y: f32,

@@ -33,7 +33,7 @@ pub fn caption<'a>(visitor: &'a [u8], house: &'a [u8], room: u32, number: &mut u
 
 // A caption as a place: its number, whether it is a part of the house text, where it starts there, and its length.
 #[repr(C)]
-#[derive(Drop)]
+#[derive(Clone, Copy)]
 pub struct CaptionAt {
     pub number: u32,
     pub house: u32,

@@ -12,7 +12,7 @@ ghost use Rattle.tables.specs.Fixed.{form_of};
 ghost use Rattle.fixed.specs.Written.{numbers_of, count_by, start_by, fields_by, head_by, Few};
 
 // The counts and the root, from which the rest of a fixed form's header follows.
-#[derive(Drop)]
+#[derive(Clone, Copy)]
 pub struct Numbers {
     pub vertices: usize,
     pub faces: usize,

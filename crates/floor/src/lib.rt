@@ -14,7 +14,7 @@ use verdict::{Answer, Form};
 
 // What the reader answers: a number, a place, and the counts, which are 0 on refusal.
 #[repr(C)]
-#[derive(Drop)]
+#[derive(Clone, Copy)]
 pub struct Floor {
     pub number: u32,
     pub place: u32,

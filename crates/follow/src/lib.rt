@@ -20,7 +20,7 @@ const EDGES_AT: usize = 8192;
 const MARK: usize = 32768;
 
 // How many edges there are, and how many rings.
-#[derive(Drop)]
+#[derive(Clone, Copy)]
 pub struct Counts {
     pub edges: usize,
     pub rings: usize,

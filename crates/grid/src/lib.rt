@@ -8,21 +8,21 @@ ghost use Rattle.grid.specs.Grid.{finite, plain, within, grid_float, may_nudge, 
 ghost use Rattle.grid.specs.Answers.{size_at, scaled_at, nudged_at};
 
 // Whether a float is on the grid, and its size in sixty-fourths.
-#[derive(Drop)]
+#[derive(Clone, Copy)]
 pub struct Size64 {
     pub on: bool,
     pub n: u32,
 }
 
 // Whether a float is on the grid, and its scaled number.
-#[derive(Drop)]
+#[derive(Clone, Copy)]
 pub struct Scaled64 {
     pub on: bool,
     pub v: i64,
 }
 
 // Whether a nudge may be made, and the bits after it.
-#[derive(Drop)]
+#[derive(Clone, Copy)]
 pub struct Nudged {
     pub ok: bool,
     pub bits: u32,

@@ -14,7 +14,7 @@ use slope::Corner;
 
 // What the call answers: all as the query has it, and the height in sixty-fourths, 0 where no face is found.
 #[repr(C)]
-#[derive(Drop)]
+#[derive(Clone, Copy)]
 pub struct Height {
     pub number: u32,
     pub place: u32,

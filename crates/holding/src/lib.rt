@@ -24,7 +24,7 @@ pub fn held_by(journal: &[u8], f: u32, bench: u32) -> u32
 }
 
 // A bench's latest record, if it holds one.
-#[derive(Drop)]
+#[derive(Clone, Copy)]
 pub struct Latest {
     pub found: bool,
     pub record: u32,

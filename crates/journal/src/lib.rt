@@ -18,7 +18,7 @@ use verdict::Answer;
 
 // What a call answers: a number of documents 01 and 02, 0 where it was done, a place, and f, the records kept.
 #[repr(C)]
-#[derive(Drop)]
+#[derive(Clone, Copy)]
 pub struct Session {
     pub number: u32,
     pub place: u32,

@@ -12,7 +12,7 @@ use text::{line_at, line_end};
 mod lines;
 
 // What the reader keeps between two lines: the section, how many of its entries are to come, and how many entries of each kind there are.
-#[derive(Drop)]
+#[derive(Clone, Copy)]
 struct Progress {
     sect: usize,
     left: usize,
@@ -24,7 +24,7 @@ struct Progress {
 
 // A layout that was read: the verdict, how many entries of each kind there are, and where their lines start (rooms from 0 on, tracks from
 // 64 on, obstacles from 128 on, hooks from 192 on). No entries on refusal.
-#[derive(Drop)]
+#[derive(Clone, Copy)]
 pub struct Layout {
     pub number: u32,
     pub place: u32,

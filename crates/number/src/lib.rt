@@ -8,7 +8,7 @@ ghost use Rattle.number.specs.Number.{number_of, count, says, some, none, minus,
 use letters::{is_digit, is_within};
 
 // A number: sign and magnitude in whole millionths, and how many digits stood after the point.
-#[derive(Drop)]
+#[derive(Clone, Copy)]
 pub struct Num {
     pub ok: bool,
     pub neg: bool,

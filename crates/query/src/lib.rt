@@ -21,7 +21,7 @@ use verdict::Answer;
 
 // What the query answers: a number, a place, whether a face was found, the face, and how many nodes were visited.
 #[repr(C)]
-#[derive(Drop)]
+#[derive(Clone, Copy)]
 pub struct Point {
     pub number: u32,
     pub place: u32,
@@ -31,7 +31,7 @@ pub struct Point {
 }
 
 // The point asked for: in sixty-fourths, and the same as floats.
-#[derive(Drop)]
+#[derive(Clone, Copy)]
 pub struct Spot {
     pub x: i64,
     pub y: i64,
@@ -40,14 +40,14 @@ pub struct Spot {
 }
 
 // A corner seen from above, in sixty-fourths.
-#[derive(Drop)]
+#[derive(Clone, Copy)]
 pub struct Flat {
     pub x: i64,
     pub y: i64,
 }
 
 // What a walk has seen: how many nodes, and the lowest face that holds the point (the number of faces where none does).
-#[derive(Drop)]
+#[derive(Clone, Copy)]
 pub struct Seen {
     pub count: usize,
     pub face: usize,

@@ -11,7 +11,7 @@ pub const SIZE: usize = 16;
 pub const BODY: u32 = 13;
 
 // A journal record as it stands.
-#[derive(Drop)]
+#[derive(Clone, Copy)]
 pub struct Rec {
     pub tag: u8,
     pub len: u32,

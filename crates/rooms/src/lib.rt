@@ -34,7 +34,7 @@ pub fn name_verdict(text: &[u8], r: Layout, room: u32, name: &[u8]) -> Answer
 }
 
 // The verdict of a layout, and how many rooms it has.
-#[derive(Drop)]
+#[derive(Clone, Copy)]
 pub struct Rooms {
     pub number: u32,
     pub place: u32,

@@ -13,7 +13,7 @@ use text::{line_at, line_end};
 mod lines;
 
 // Where the reader is: the observer, how many rooms of its list are to come, and the marks of the observers so far.
-#[derive(Drop)]
+#[derive(Clone, Copy)]
 struct Looking {
     observer: usize,
     left: usize,
@@ -21,14 +21,14 @@ struct Looking {
 }
 
 // One line as it was read: what is wrong with it, 0 for nothing, and where the reader is behind it.
-#[derive(Drop)]
+#[derive(Clone, Copy)]
 struct Turn {
     fault: u32,
     next: Looking,
 }
 
 // Visibility that was read: the verdict, and the row of each room, all 0 on refusal.
-#[derive(Drop)]
+#[derive(Clone, Copy)]
 pub struct Sight {
     pub number: u32,
     pub place: u32,
@@ -37,7 +37,7 @@ pub struct Sight {
 
 // A room's row, and how many rooms it sees.
 #[repr(C)]
-#[derive(Drop)]
+#[derive(Clone, Copy)]
 pub struct Row {
     pub number: u32,
     pub place: u32,

@@ -7,7 +7,7 @@ ghost use Rattle.slope.specs.Height.{rounded_down, beside, lifted, turned, heigh
 ghost use Rattle.slope.specs.Plain.{holds, Near, most_cross, most_share, most_lifted};
 
 // A corner of a face, in sixty-fourths.
-#[derive(Drop)]
+#[derive(Clone, Copy)]
 pub struct Corner {
     pub x: i64,
     pub y: i64,

@@ -8,7 +8,7 @@ ghost use Rattle.tables.specs.Header.{floor_tables, RightHeader};
 ghost use Rattle.tables.specs.Parts.{parts_of, table_of, count_of, word_index, word_of, word_place, corner, material};
 
 // A table by the positions of its count and its offset in the header, and the size of an entry.
-#[derive(Drop)]
+#[derive(Clone, Copy)]
 pub struct Table {
     pub count: usize,
     pub offset: usize,
@@ -16,7 +16,7 @@ pub struct Table {
 }
 
 // A run of bytes of the file, up to the byte at `stop`, not included.
-#[derive(Drop)]
+#[derive(Clone, Copy)]
 pub struct Span {
     pub start: usize,
     pub stop: usize,

@@ -9,7 +9,7 @@ ghost use Rattle.verdict.specs.Output.{no_form};
 
 // A number of document 01, 0 for acceptance, and a place.
 #[repr(C)]
-#[derive(Drop)]
+#[derive(Clone, Copy)]
 pub struct Answer {
     pub number: u32,
     pub place: u32,
@@ -17,7 +17,7 @@ pub struct Answer {
 
 // What a rewriting answers: a number, a place, and how many bytes it wrote.
 #[repr(C)]
-#[derive(Drop)]
+#[derive(Clone, Copy)]
 pub struct Form {
     pub number: u32,
     pub place: u32,

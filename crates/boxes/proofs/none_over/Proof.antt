@@ -10,7 +10,7 @@ use Rattle.boxes.proofs.none_over.Tie as tie
 -- where the first two tests meet
 two : (c : tie.Joined1) → c.if1.if2 ≡ (le c.before.args.a c.before.args.d && le c.before.args.b c.before.args.e)
 two c = elim c.if1.branch [
-  | inl p ↦ p.1 ∙ simp p.0.taken
+  | inl p ↦ p.1 ∙ simp p.0.true
   | inr p ↦ p.1 ∙ simp p.0.left
 ]
 

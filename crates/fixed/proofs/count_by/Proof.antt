@@ -19,22 +19,22 @@ as_faces n =
 known : (n : Numbers) {k m : ℕ} → k ≡ m → count_by n m ≡ count_by n k
 known n e = ap (count_by n) (sym e)
 
-returns : tie.Need-returns
-returns c = known c.before.args.n c.if1.true
+returns : tie.Need-returns-then-k-eq0
+returns c = known c.args.n c.if-k-eq0.true
 
-returns_2 : tie.Need-returns-2
-returns_2 c = let s = c.before.before in as_faces s.args.n s.args.k s.requires c.before.if1.false (search rules)
+returns_2 : tie.Need-returns-then-k-lt5
+returns_2 c = let s = c.before.before in as_faces s.args.n s.args.k s.requires c.if-k-eq0.false (search rules)
 
-returns_3 : tie.Need-returns-3
-returns_3 c = known c.before.before.before.args.n c.if3.true
+returns_3 : tie.Need-returns-then-k-eq5
+returns_3 c = known c.args.n c.if-k-eq5.true
 
-returns_4 : tie.Need-returns-4
-returns_4 c = known c.before.before.before.before.args.n c.if4.true
+returns_4 : tie.Need-returns-then-k-eq6
+returns_4 c = known c.args.n c.if-k-eq6.true
 
-returns_5 : tie.Need-returns-5
-returns_5 c = known c.before.before.before.before.before.args.n c.if5.true
+returns_5 : tie.Need-returns-then-k-eq7
+returns_5 c = known c.args.n c.if-k-eq7.true
 
-returns_6 : tie.Need-returns-6
+returns_6 : tie.Need-returns
 returns_6 c =
     let s = c.before.before.before.before.before in
     let e : s.args.k ≡ 8 = omega (arith, s.requires) in

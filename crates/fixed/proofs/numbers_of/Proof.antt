@@ -9,13 +9,13 @@ unfolding numbers_of
 returns c =
     let a = c.before.before.before in
     rw (
-      c.count-of6.ensures.0,
-      c.before.count-of5.ensures.0,
-      c.before.before.count-of4.ensures.0,
-      a.root-of.ensures,
-      a.before.count-of3.ensures.0,
-      a.before.before.count-of2.ensures.0,
-      a.before.before.before.count_of.ensures.0,
+      c.count_of-perimeters.ensures.0,
+      c.count_of-edges.ensures.0,
+      c.count_of-adjacency.ensures.0,
+      a.root_of-root.ensures,
+      a.count_of-nodes.ensures.0,
+      a.count_of-faces.ensures.0,
+      a.count_of-vertices.ensures.0,
     )
 
 pub numbers_of_spec : {M : Type 1} → statement M

@@ -10,7 +10,7 @@ returns c =
     let three = four.before.before.before.before in
     let two = three.before.before.before.before in
     let one = two.before.before.before.before in
-    four_words _ _ _ _ _ _ one.put-u32.ensures two.put-u322.ensures three.put-u323.ensures four.put-u324.ensures
+    four_words _ _ _ _ _ _ one.put_u32.ensures two.put_u32-2.ensures three.put_u32-3.ensures four.put_u32-4.ensures
 
 pub put_four_spec : {M : Type 1} → statement M
 put_four_spec = tie.close (tie.spec (search rules) (search rules) (search rules) (search rules) (search rules) (search rules) (search rules) (search rules) returns)

@@ -4,4 +4,4 @@ use Rattle.fixed.proofs.start_word.Statement.{statement}
 use Rattle.fixed.proofs.start_word.Tie as tie
 
 pub start_word_spec : {M : Type 1} → statement M
-start_word_spec = tie.close (tie.spec (λ c κs. c.requires) (λ c. omega (arith, c.start_by_lem.ensures.1)) (λ c. c.start_by_lem.ensures.0))
+start_word_spec = tie.close (tie.spec (λ c κs. c.requires) (λ c. omega (arith, c.start_by.ensures.1)) (λ c. c.start_by.ensures.0))

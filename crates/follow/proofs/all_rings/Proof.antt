@@ -59,7 +59,7 @@ loop_again c =
     (omega arith, turn.auto.1.0 ∙ i.1, turn.ensures.0, ready_same _ _ i.3 _ turn.auto.1.0 turn.ensures.1, top_same _ _ turn.ensures.1 ∙ i.4)
 
 same_length : tie.Need-same-length invariant_loop decreases_loop
-same_length c = c.before.loop.invariant.1 ∙ (at_chain c.before).chain-all.kept.1.0
+same_length c = c.before.loop.invariant.1 ∙ (at_chain c.before).chain-all.auto.1.0
 
 returns : tie.Need-returns invariant_loop decreases_loop
 returns c =

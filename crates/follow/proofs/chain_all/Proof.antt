@@ -52,7 +52,7 @@ loop_again c =
     (omega (arith, l.invariant.0), one.auto.1.0 ∙ l.invariant.1, one.ensures.0, one.ensures.1.0, one.ensures.1.1 ∙ l.invariant.4)
 
 same_length : tie.Need-same-length invariant_loop decreases_loop
-same_length c = c.before.loop.invariant.1 ∙ (at_empty c.before).empty-chains.kept.1.0
+same_length c = c.before.loop.invariant.1 ∙ (at_empty c.before).empty-chains.auto.1.0
 
 returns : tie.Need-returns invariant_loop decreases_loop
 returns c =

@@ -106,7 +106,7 @@ loop_again c =
     (ready_same _ _ c.before.before.before.before.before.before.before.loop.invariant.0 _ on.step2.auto.1.0 on.step2.ensures.1.same, (next_turn on).0)
 
 same_length : tie.Need-same-length invariant_loop decreases_loop
-same_length c = c.before.loop.invariant.1.long ∙ (at_step c.before).step.kept.1.0
+same_length c = c.before.loop.invariant.1.long ∙ (at_step c.before).step.auto.1.0
 
 returns : tie.Need-returns invariant_loop decreases_loop
 returns c =

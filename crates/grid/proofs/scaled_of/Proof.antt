@@ -21,7 +21,7 @@ small : (b : ℕ) (r : Size64) → r ≡ size_at b → r.n < 2 ^ 63
 small b r e = lt_of_le_of_lt (subst (λ (z : Size64). z.n ≤ 65536) (sym e) (size_small b)) (lit< tt)
 
 sub_t6 : tie.Need-overflow_sub-result
-sub_t6 c = neg_fits _ (small _ c.type_size.result c.type_size.ensures)
+sub_t6 c = neg_fits _ (small _ c.size_of-z.result c.size_of-z.ensures)
 
 -- the answer of size_of with the sign is scaledAt
 signs : (b : ℕ) (r : Size64) (s : Bool) (v : ℤ) → r ≡ size_at b → leb 2147483648 b ≡ s → v ≡ signed s r.n → ◌≡◌ {A = Scaled64} (record { on = r.on; v = v }) (scaled_at b)
@@ -29,12 +29,12 @@ signs b r s v e t h = simp (h, scaled_is b, t, e)
 
 returns : tie.Need-returns-then-b-lt2147483648
 returns c =
-    let r = c.type_size in
+    let r = c.size_of-z in
     signs _ r.result false _ r.ensures (lt-leb _ _ c.if-b-lt2147483648.true) (nat_is _ (small _ r.result r.ensures))
 
 returns_2 : tie.Need-returns-else-b-lt2147483648
 returns_2 c =
-    let r = c.type_size in
+    let r = c.size_of-z in
     signs _ r.result true _ r.ensures (le-leb _ _ c.if-b-lt2147483648.false) (neg_back _ (small _ r.result r.ensures))
 
 pub scaled_of_spec : {M : Type 1} → statement M

@@ -18,11 +18,11 @@ returns c =
     let fourth = fifth.before.before.before in
     let third = fourth.before in
     let second = third.before.before in
-    rw (fields_joined _) (next (next (next (next (second.first-rule.ensures ∙ tested 2 0 second.before.starts-wrong.ensures)
-    (tested 3 8 (ap (λ (w : ℕ). not (eqb w 1)) third.before.u32-at.ensures)) third.then_rule.ensures)
-    refl fourth.then-counts.ensures)
-    (each_by 5 _ _ refl fifth.before.before.first-outside.ensures fifth.before.offset-field.ensures) fifth.then-rule2.ensures)
-    (each_by 6 _ _ refl c.before.before.first-sharing.ensures c.before.offset-field2.ensures) c.then-rule3.ensures)
+    rw (fields_joined _) (next (next (next (next (second.first_rule-a.ensures ∙ tested 2 0 second.starts_wrong.ensures)
+    (tested 3 8 (ap (λ (w : ℕ). not (eqb w 1)) third.u32_at.ensures)) third.then_rule-b.ensures)
+    refl fourth.then_counts-c.ensures)
+    (each_by 5 _ _ refl fifth.first_outside-out.ensures fifth.offset_field.ensures) fifth.then_rule-d.ensures)
+    (each_by 6 _ _ refl c.first_sharing-twice.ensures c.offset_field-2.ensures) c.then_rule.ensures)
 
 pub fields_verdict_spec : {M : Type 1} → statement M
 fields_verdict_spec =

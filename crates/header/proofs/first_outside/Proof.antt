@@ -9,23 +9,23 @@ use Rattle.verdict.proofs.Lowest.{lowest_none, lowest_more, lowest_hit, lowest_d
 use Rattle.header.proofs.first_outside.Statement.{statement}
 use Rattle.header.proofs.first_outside.Tie as tie
 
-abbrev invariant_loop : tie.invariant_loop
+abbrev invariant_loop : tie.invariant-loop-k
 invariant_loop bytes n k₀ k = lowest k (outside_at 136 floor_tables bytes) ≡ k
 
-abbrev decreases_loop : tie.decreases_loop
+abbrev decreases_loop : tie.decreases-loop-k
 decreases_loop bytes n k₀ k = n - k
 
-loop_holds : tie.Need-loop-init invariant_loop decreases_loop
+loop_holds : tie.Need-loop-k-init invariant_loop decreases_loop
 loop_holds c = lowest_none _
 
-returns : tie.Need-returns invariant_loop decreases_loop
-returns c = sym (lowest_hit _ _ _ c.before.before.before.loop.invariant (rw (← c.before.outside-at.ensures) c.if1.true) (search rules))
+returns : tie.Need-returns-then-outside_at invariant_loop decreases_loop
+returns c = sym (lowest_hit _ _ _ c.loop-k.invariant (rw (← c.outside_at.ensures) c.if-outside_at.true) (search rules))
 
-loop_again : tie.Need-loop-preserved invariant_loop decreases_loop
-loop_again c = lowest_more _ _ c.before.before.before.loop.invariant (rw (← c.before.outside-at.ensures) c.if1.false)
+loop_again : tie.Need-loop-k-preserved invariant_loop decreases_loop
+loop_again c = lowest_more _ _ c.loop-k.invariant (rw (← c.outside_at.ensures) c.if-outside_at.false)
 
-returns_2 : tie.Need-returns-2 invariant_loop decreases_loop
-returns_2 c = lowest_done _ _ _ c.before.loop.invariant (search rules)
+returns_2 : tie.Need-returns invariant_loop decreases_loop
+returns_2 c = lowest_done _ _ _ c.loop-k.invariant (search rules)
 
 pub first_outside_spec : {M : Type 1} → statement M
 first_outside_spec =

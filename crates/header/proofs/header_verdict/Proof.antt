@@ -8,20 +8,20 @@ use Rattle.tables.proofs.Right.{length_met, wrong_long, right_long}
 use Rattle.header.proofs.header_verdict.Statement.{statement}
 use Rattle.header.proofs.header_verdict.Tie as tie
 
-wrong : (c : tie.Then1) → wrong_length (length c.before.before.before.args.bytes.now) ≡ true
-wrong c = sym c.before.wrong-length.ensures ∙ c.if1.true
+wrong : (c : tie.Then-wrong_length) → wrong_length (length c.args.bytes.now) ≡ true
+wrong c = sym c.wrong_length.ensures ∙ c.if-wrong_length.true
 
-right : (c : tie.Else1) → wrong_length (length c.before.before.before.args.bytes.now) ≡ false
-right c = sym c.before.wrong-length.ensures ∙ c.if1.false
+right : (c : tie.Else-wrong_length) → wrong_length (length c.args.bytes.now) ≡ false
+right c = sym c.wrong_length.ensures ∙ c.if-wrong_length.false
 
-returns : tie.Need-returns
+returns : tie.Need-returns-then-wrong_length
 returns c = sym (wrong_long _ (wrong c))
 
-fields_verdict_requires : tie.Need-fields-verdict-requires
+fields_verdict_requires : tie.Need-fields_verdict-requires
 fields_verdict_requires c κs = (length_met _ (right c)).0
 
-returns_2 : tie.Need-returns-2
-returns_2 c = c.fields-verdict.ensures ∙ sym (right_long _ (right c.before))
+returns_2 : tie.Need-returns
+returns_2 c = c.fields_verdict.ensures ∙ sym (right_long _ (right c.before))
 
 pub header_verdict_spec : {M : Type 1} → statement M
 header_verdict_spec = tie.close (tie.spec (search rules) returns fields_verdict_requires returns_2)

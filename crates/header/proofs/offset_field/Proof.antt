@@ -6,8 +6,8 @@ use borrow.Author.Rules.{rules}
 use Rattle.header.proofs.offset_field.Statement.{statement}
 use Rattle.header.proofs.offset_field.Tie as tie
 
-returns_2 : tie.Need-returns-2
-returns_2 c = ap (λ t. t.offset) (sym (get_or-eq_default floor_tables _ c.if1.false))
+returns_2 : tie.Need-returns
+returns_2 c = ap (λ t. t.offset) (sym (get_or-eq_default floor_tables _ c.if-k-lt9.false))
 
 pub offset_field_spec : {M : Type 1} → statement M
 offset_field_spec = tie.close (tie.spec (search rules) (search rules) (λ c. search rules) returns_2)

@@ -6,7 +6,7 @@ use Rattle.header.proofs.outside_at.Tie as tie
 
 returns : tie.Need-returns
 unfolding outside_at
-returns c = rw (← c.before.span-at.ensures, c.is-outside.ensures)
+returns c = rw (← c.span_at.ensures, c.is_outside.ensures)
 
 pub outside_at_spec : {M : Type 1} → statement M
 outside_at_spec = tie.close (tie.spec (search rules) (search rules) returns)

@@ -6,7 +6,7 @@ use Rattle.header.proofs.share.Tie as tie
 
 returns : tie.Need-returns
 unfolding shares
-returns c = rw (c.before.larger.ensures, c.smaller.ensures)
+returns c = rw (c.larger.ensures, c.smaller.ensures)
 
 pub share_spec : {M : Type 1} → statement M
 share_spec = tie.close (tie.spec (search rules) (search rules) returns)

@@ -24,12 +24,12 @@ returns c =
     let second = third.before.before in
     let first = second.before in
     let faces = first.before.before in
-    next_in _ _ (next_in _ _ (next_in _ _ (next_in _ _ (next_in _ _ (next refl (limit_by _ 72 4096 refl first.before.u32-at2.ensures) first.then_rule.ensures)
-    (limit_by _ 80 4096 refl faces.u32-at.ensures) second.then-rule2.ensures)
-    (limit_by _ 100 8191 refl third.before.u32-at3.ensures) third.then-rule3.ensures)
-    (limit_by _ 112 _ faces.u32-at.ensures fourth.before.u32-at4.ensures) fourth.then-rule4.ensures)
-    (limit_by _ 120 12288 refl fifth.before.u32-at5.ensures) fifth.then-rule5.ensures)
-    (limit_by _ 128 12288 refl c.before.u32-at6.ensures) c.then-rule6.ensures
+    next_in _ _ (next_in _ _ (next_in _ _ (next_in _ _ (next_in _ _ (next refl (limit_by _ 72 4096 refl first.u32_at.ensures) first.then_rule-a.ensures)
+    (limit_by _ 80 4096 refl faces.u32_at-faces.ensures) second.then_rule-b.ensures)
+    (limit_by _ 100 8191 refl third.u32_at-2.ensures) third.then_rule-c.ensures)
+    (limit_by _ 112 _ faces.u32_at-faces.ensures fourth.u32_at-3.ensures) fourth.then_rule-d.ensures)
+    (limit_by _ 120 12288 refl fifth.u32_at-4.ensures) fifth.then_rule-e.ensures)
+    (limit_by _ 128 12288 refl c.u32_at-5.ensures) c.then_rule.ensures
 
 pub then_counts_spec : {M : Type 1} → statement M
 then_counts_spec = tie.close (tie.spec (search rules) (search rules) (search rules) (search rules) (search rules) (search rules) (search rules) (search rules) (search rules) (search rules) (search rules) (search rules) returns)

@@ -26,7 +26,7 @@ loop_again c =
     let at = stored a.journal.now in
     let e = c.before.wide.ensures.0 ∙ c.before.before.bench-at.ensures in
     ⊎_elim
-    (λ w. rw w.1 (omega arith, omega arith, omega (arith, q.invariant.2, held_own at a.bench q.i (sym e ∙ w.0.taken))))
+    (λ w. rw w.1 (omega arith, omega arith, omega (arith, q.invariant.2, held_own at a.bench q.i (sym e ∙ w.0.true))))
     (λ w. rw w.1 (omega arith, omega arith, q.invariant.2 ∙ sym (held_not at a.bench q.i (λ z. w.0.left (e ∙ z)))))
     c.if1.branch
 

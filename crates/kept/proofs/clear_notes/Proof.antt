@@ -34,7 +34,7 @@ under : (c : tie.In-loop invariant_loop decreases_loop) → c.before.loop.h < ha
 under c = omega (arith, as_many (parts (start c.before)), c.before.before.halves_of.ensures.0)
 
 room : (c : tie.In-loop invariant_loop decreases_loop) → (c.before.loop.h < 12288) × (work_size ≤ length c.before.loop.work)
-room c = (omega (arith, c.before.before.halves_of.ensures.1), omega (arith, (start c.before).pre.0.1, c.before.loop.invariant.1.long))
+room c = (omega (arith, c.before.before.halves_of.ensures.1), omega (arith, (start c.before).requires.0.1, c.before.loop.invariant.1.long))
 
 loop_again : tie.Need-loop-preserved invariant_loop decreases_loop
 loop_again c =
@@ -42,11 +42,11 @@ loop_again c =
     let there = read.before.before in
     let l = there.before in
     let s = start l in
-    let few = few_halves s.args.bytes.now s.pre.0.0 in
+    let few = few_halves s.args.bytes.now s.requires.0.0 in
     let is = read.u16-at.ensures.0 in
     ⊎_elim
-    (λ w. (omega arith, clear_border _ _ few _ l.loop.work _ l.loop.invariant.1 s.pre.1 (under there) _ s.pre.0.1 (omega (arith, w.0.taken, is)) (w.5 ∙ w.2.ensures)))
-    (λ w. (omega arith, clear_inside _ _ few _ l.loop.work _ l.loop.invariant.1 s.pre.1 (under there) _ (omega (arith, w.0.left, is)) w.1))
+    (λ w. (omega arith, clear_border _ _ few _ l.loop.work _ l.loop.invariant.1 s.requires.1 (under there) _ s.requires.0.1 (omega (arith, w.0.true, is)) (w.5 ∙ w.2.ensures)))
+    (λ w. (omega arith, clear_inside _ _ few _ l.loop.work _ l.loop.invariant.1 s.requires.1 (under there) _ (omega (arith, w.0.left, is)) w.1))
     c.if1.branch
 
 same_length : tie.Need-same-length invariant_loop decreases_loop

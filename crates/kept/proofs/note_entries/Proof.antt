@@ -33,7 +33,7 @@ note_entry_requires c κs =
     let l = c.before.before in
     let s = start l in
     let e = l.before.edges_of.ensures in
-    ((s.pre.0.0, omega (arith, s.pre.0.1, (cleared l).clear-notes.auto.1.0, l.loop.invariant.1), omega arith), l.loop.invariant.2)
+    ((s.requires.0.0, omega (arith, s.requires.0.1, (cleared l).clear-notes.auto.1.0, l.loop.invariant.1), omega arith), l.loop.invariant.2)
 
 loop_again : tie.Need-loop-preserved invariant_loop decreases_loop
 loop_again c =
@@ -42,7 +42,7 @@ loop_again c =
     (omega arith, noted.auto.1.0 ∙ l.invariant.1, noted.ensures.0, noted.ensures.1.0 ∙ l.invariant.3, noted.ensures.1.1 ∙ l.invariant.4)
 
 same_length : tie.Need-same-length invariant_loop decreases_loop
-same_length c = c.before.loop.invariant.1 ∙ (cleared c.before).clear-notes.kept.1.0
+same_length c = c.before.loop.invariant.1 ∙ (cleared c.before).clear-notes.auto.1.0
 
 returns : tie.Need-returns invariant_loop decreases_loop
 returns c =

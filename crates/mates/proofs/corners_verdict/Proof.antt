@@ -70,13 +70,13 @@ put_mates_requires c κs =
     let found = c.before.before.before.before in
     let p = parts found in
     let mapped = at_map found in
-    let s = mapped.before.before.before.before.pre in
+    let s = mapped.before.before.before.before.requires in
     let n = found.before.before.halves_of.ensures.0 in
     let e = found.first-repeat.ensures.0 in
     let all : found.first-repeat.result ≡ halves p = omega (arith, lowest_within _ _ _ e, n, c.before.if2.false) in (
       (s.0, s.2, repeat_apart _ _ _ (sym (halves_same p)) e (omega (arith, all))),
       (
-        (omega (arith, s.3, mapped.map-vertices.kept.1.0, found.first-repeat.auto.1.0), mapped_same p _ _ found.first-repeat.ensures.1.1 mapped.map-vertices.ensures.0),
+        (omega (arith, s.3, mapped.map-vertices.auto.1.0, found.first-repeat.auto.1.0), mapped_same p _ _ found.first-repeat.ensures.1.1 mapped.map-vertices.ensures.0),
         subst (λ (k : ℕ). Chained run_chains (run_key (recornered p)) found.first-repeat.new.1.0 k) all found.first-repeat.ensures.1.0,
       ),
     )

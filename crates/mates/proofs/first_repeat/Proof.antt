@@ -41,7 +41,7 @@ inside : (c : tie.In-loop invariant_loop decreases_loop) → c.before.loop.h < h
 inside c = omega (arith, c.loop-test.true, (at_clear c.before).before.before.halves_of.ensures.0)
 
 few : (c : tie.In-loop invariant_loop decreases_loop) → c.before.loop.h < 12288
-few c = let s = start c.before in omega (arith, inside c, few_walkable s.args.bytes.now s.pre.0.0)
+few c = let s = start c.before in omega (arith, inside c, few_walkable s.args.bytes.now s.requires.0.0)
 
 long : (l : tie.At-loop invariant_loop decreases_loop) → work_size ≤ length l.loop.work
 long l = omega (arith, (start l).requires.1.0, l.loop.invariant.2, (at_clear l).clear-to.auto.0)
@@ -63,13 +63,13 @@ loop_holds c =
 from_of_requires : tie.Need-from-of-requires invariant_loop decreases_loop
 from_of_requires c κs =
     let i = c.before in
-    let s = (start i.before).pre.0 in
+    let s = (start i.before).requires.0 in
     ((s.0, s.1, inside i), (long i.before, mapped i.before))
 
 to_of_requires : tie.Need-to-of-requires invariant_loop decreases_loop
 to_of_requires c κs =
     let i = c.before.before.before in
-    let s = (start i.before).pre.0 in
+    let s = (start i.before).requires.0 in
     ((s.0, s.1, inside i), (long i.before, mapped i.before))
 
 find_run_requires : tie.Need-find-run-requires invariant_loop decreases_loop

@@ -27,7 +27,7 @@ sized : (c : tie.After-work-out) → Sized (mended (parts_of (start c).args.byte
 sized c =
     let s = start c in
     let known = c.before.before.before.before.before in
-    sized_mended s.args.bytes.now s.args.work.now (record { byte = λ i. omega (arith, known.shared-slice-known.given i) }) s.pre.0 s.pre.1
+    sized_mended s.args.bytes.now s.args.work.now (record { byte = λ i. omega (arith, known.shared-slice-known.given i) }) s.requires.0 s.requires.1
 
 start_by_requires : tie.Need-start-by-requires
 start_by_requires c κs =

@@ -48,7 +48,7 @@ loop_again c =
     let l = test.before.before in
     let p = parts (start l) in
     ⊎_elim
-    (λ w. (omega (arith, w.1, l.loop.invariant.0, length_yes (changed p) (corner_record p) 15 (corner_long p) l.loop.j (sym test.is-changed.ensures ∙ w.0.taken)), omega arith))
+    (λ w. (omega (arith, w.1, l.loop.invariant.0, length_yes (changed p) (corner_record p) 15 (corner_long p) l.loop.j (sym test.is-changed.ensures ∙ w.0.true)), omega arith))
     (λ w. (omega (arith, w.1, l.loop.invariant.0, length_no (changed p) (corner_record p) 15 (corner_long p) l.loop.j (sym test.is-changed.ensures ∙ w.0.left)), omega arith))
     c.if1.branch
 

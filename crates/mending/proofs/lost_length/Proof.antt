@@ -51,7 +51,7 @@ loop_again c =
     let l = test.before.before in
     let t = gone (parts (start l)) in
     ⊎_elim
-    (λ w. (omega (arith, w.1, l.loop.invariant.0, length_yes t lost_record 7 lost_long l.loop.h (sym test.is_lost.ensures ∙ w.0.taken)), omega arith))
+    (λ w. (omega (arith, w.1, l.loop.invariant.0, length_yes t lost_record 7 lost_long l.loop.h (sym test.is_lost.ensures ∙ w.0.true)), omega arith))
     (λ w. (omega (arith, w.1, l.loop.invariant.0, length_no t lost_record 7 lost_long l.loop.h (sym test.is_lost.ensures ∙ w.0.left)), omega arith))
     c.if1.branch
 

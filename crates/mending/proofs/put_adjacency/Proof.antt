@@ -68,4 +68,4 @@ returns c =
 
 pub put_adjacency_spec : {M : Type 1} → statement M
 put_adjacency_spec =
-    tie.close (tie.spec invariant_loop decreases_loop (λ c κs. search rules) loop_holds (λ c. omega (arith, (known c.before.before).few)) (λ c. omega (arith, (known c.before.before).few, (start c.before.before).pre.1)) pairing_of_requires put_u32_requires (search rules) (search rules) loop_again (λ c. omega (arith, (known c.before).few)) (λ c. omega (arith, (known c.before).few, (start c.before).pre.1)) (λ c. (known c.before).long) returns)
+    tie.close (tie.spec invariant_loop decreases_loop (λ c κs. search rules) loop_holds (λ c. omega (arith, (known c.before.before).few)) (λ c. omega (arith, (known c.before.before).few, (start c.before.before).requires.1)) pairing_of_requires put_u32_requires (search rules) (search rules) loop_again (λ c. omega (arith, (known c.before).few)) (λ c. omega (arith, (known c.before).few, (start c.before).requires.1)) (λ c. (known c.before).long) returns)

@@ -39,9 +39,9 @@ known l =
     let p = parts s in
     record {
       count = l.before.count_of.ensures.0;
-      few = (sized_of _ s.pre.0.right).faces;
+      few = (sized_of _ s.requires.0.right).faces;
       next = omega (arith, l.loop.invariant.0.next, listed_few (changed p) (corner_record p) 15 (corner_long p) l.loop.j);
-      room = omega (arith, s.pre.1, changes_long p, ap length (corners_listed p (3 * p.faces) refl));
+      room = omega (arith, s.requires.1, changes_long p, ap length (corners_listed p (3 * p.faces) refl));
     }
 
 loop_holds : tie.Need-loop-init invariant_loop decreases_loop
@@ -65,7 +65,7 @@ loop_again c =
     let p = parts (start l) in
     let is = sym test.is-changed.ensures in
     ⊎_elim
-    (λ w. (listed_put (changed p) (corner_record p) 15 (corner_long p) _ _ l.loop.j l.loop.invariant.0 (is ∙ w.0.taken) (w.5 ∙ w.2.ensures) w.6, omega arith))
+    (λ w. (listed_put (changed p) (corner_record p) 15 (corner_long p) _ _ l.loop.j l.loop.invariant.0 (is ∙ w.0.true) (w.5 ∙ w.2.ensures) w.6, omega arith))
     (λ w. (listed_left (changed p) (corner_record p) 15 (corner_long p) _ _ l.loop.j l.loop.invariant.0 (is ∙ w.0.left) w.1 w.2, omega arith))
     c.if1.branch
 

@@ -64,4 +64,4 @@ returns c =
 
 pub put_corners_spec : {M : Type 1} → statement M
 put_corners_spec =
-    tie.close (tie.spec invariant_loop decreases_loop (λ c κs. search rules) (search rules) loop_holds (λ c. omega (arith, known c.before.before)) (λ c. omega (arith, known c.before.before, (start c.before.before).pre.1)) corner_at_requires put_u32_requires (search rules) (search rules) loop_again (λ c. omega (arith, known c.before)) (λ c. omega (arith, known c.before, (start c.before).pre.1)) (λ c. (known c.before).long) returns)
+    tie.close (tie.spec invariant_loop decreases_loop (λ c κs. search rules) (search rules) loop_holds (λ c. omega (arith, known c.before.before)) (λ c. omega (arith, known c.before.before, (start c.before.before).requires.1)) corner_at_requires put_u32_requires (search rules) (search rules) loop_again (λ c. omega (arith, known c.before)) (λ c. omega (arith, known c.before, (start c.before).requires.1)) (λ c. (known c.before).long) returns)

@@ -48,7 +48,7 @@ put_u32_requires : tie.Need-put-u32-requires invariant_loop decreases_loop
 put_u32_requires c κs =
     let read = c.before.before in
     let l = arg c in
-    omega (arith, (known l).long, l.loop.inv.0.count, (start l).pre.2, end_room _ _ _ (start l).pre.0 l.loop.i (omega arith) (omega (arith, c.before.if1.true, read.u16-at.ensures.0)))
+    omega (arith, (known l).long, l.loop.inv.0.count, (start l).requires.2, end_room _ _ _ (start l).requires.0 l.loop.i (omega arith) (omega (arith, c.before.if1.true, read.u16-at.ensures.0)))
 
 loop_again : tie.Need-loop-preserved invariant_loop decreases_loop
 loop_again c =
@@ -56,7 +56,7 @@ loop_again c =
     let l = read.before.before in
     let is = read.u16-at.ensures.0 in
     ⊎_elim
-    (λ w. (end_put _ _ _ l.loop.i l.loop.invariant.0 (omega (arith, w.0.taken, is)) (w.5 ∙ w.2.ensures) w.6, omega arith))
+    (λ w. (end_put _ _ _ l.loop.i l.loop.invariant.0 (omega (arith, w.0.true, is)) (w.5 ∙ w.2.ensures) w.6, omega arith))
     (λ w. (end_left _ _ _ l.loop.i l.loop.invariant.0 (omega (arith, w.0.left, is)) w.1 w.2, omega arith))
     c.if1.branch
 
@@ -65,7 +65,7 @@ returns c =
     let l = c.before in
     let s = start l in
     let all : l.loop.i ≡ s.args.e = omega arith in
-    l.loop.invariant.0.bytes ∙ ap (λ (x : List ℕ). put s.args.out.now s.args.at (bytes_of x)) (ap (ends_in s.args.work.now) all ∙ s.pre.0.ends)
+    l.loop.invariant.0.bytes ∙ ap (λ (x : List ℕ). put s.args.out.now s.args.at (bytes_of x)) (ap (ends_in s.args.work.now) all ∙ s.requires.0.ends)
 
 pub put_ends_spec : {M : Type 1} → statement M
 put_ends_spec =

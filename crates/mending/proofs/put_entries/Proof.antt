@@ -45,9 +45,9 @@ known : (l : tie.At-loop invariant_loop decreases_loop) → Known l
 known l =
     let s = start l in
     let b = s.args.bytes.now in
-    let k = s.pre.0 in
+    let k = s.requires.0 in
     let n = edge_count b _ _ k in
-    record { few = k.few; memory = k.long; long = put_long _ _ _ l.loop.invariant.0; count = n; all = omega (arith, n, entries_long (parts_of b) (edge_list (web_in b))); room = s.pre.2; low = s.pre.1 }
+    record { few = k.few; memory = k.long; long = put_long _ _ _ l.loop.invariant.0; count = n; all = omega (arith, n, entries_long (parts_of b) (edge_list (web_in b))); room = s.requires.2; low = s.requires.1 }
 
 -- the half-edge as it is read
 half : (c : tie.After-u16-at invariant_loop decreases_loop) → let l = c.before.before in c.u16-at.result % mark ≡ u16_at (start l).args.work.now (edge_place l.loop.i) % mark

@@ -41,8 +41,8 @@ known l =
     record {
       count = e.0;
       few = e.1;
-      next = omega (arith, l.loop.invariant.0.next, s.pre.1, listed_few (gone p) lost_record 7 lost_long l.loop.h);
-      room = omega (arith, s.pre.2, ap length (lost_listed p (halves p) refl));
+      next = omega (arith, l.loop.invariant.0.next, s.requires.1, listed_few (gone p) lost_record 7 lost_long l.loop.h);
+      room = omega (arith, s.requires.2, ap length (lost_listed p (halves p) refl));
     }
 
 loop_holds : tie.Need-loop-init invariant_loop decreases_loop
@@ -69,7 +69,7 @@ loop_again c =
     let t = gone (parts (begin l)) in
     let is = sym test.is_lost.ensures in
     ⊎_elim
-    (λ w. (listed_put t lost_record 7 lost_long _ _ l.loop.h l.loop.invariant.0 (is ∙ w.0.taken) (w.5 ∙ w.2.ensures) w.6, omega arith))
+    (λ w. (listed_put t lost_record 7 lost_long _ _ l.loop.h l.loop.invariant.0 (is ∙ w.0.true) (w.5 ∙ w.2.ensures) w.6, omega arith))
     (λ w. (listed_left t lost_record 7 lost_long _ _ l.loop.h l.loop.invariant.0 (is ∙ w.0.left) w.1 w.2, omega arith))
     c.if1.branch
 

@@ -81,7 +81,7 @@ bytes_of_lem c = record { byte = λ i. omega (arith, c.before.before.before.befo
 has_head : (c : tie.After-write-head) → Has (start c) c.write-head.new.1.1.0 136 0
 has_head c =
     let s = start c in
-    up_start (floor s) (sized s) (old s) (room s) _ s.pre.0.1 (unfold mended relinked in c.write-head.ensures)
+    up_start (floor s) (sized s) (old s) (room s) _ s.requires.0.1 (unfold mended relinked in c.write-head.ensures)
 
 -- a table that stays, and one that is written afresh
 copied : (c : tie.After-write-head) (k : ℕ) {out new : List ℕ} {at here : ℕ} → let s = start c in

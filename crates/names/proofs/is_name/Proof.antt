@@ -5,11 +5,11 @@ use borrow.Author.Rules.{rules}
 use Rattle.names.proofs.is_name.Statement.{statement}
 use Rattle.names.proofs.is_name.Tie as tie
 
-returns : tie.Need-returns
-returns c = name_by _ _ (sym c.before.before.is_Within.ensures ∙ c.before.if1.true) c.name-end.ensures
+returns : tie.Need-returns-then-is_within
+returns c = name_by _ _ (sym c.is_within.ensures ∙ c.if-is_within.true) c.name_end.ensures
 
-returns_2 : tie.Need-returns-2
-returns_2 c = name_not _ (sym c.before.is_Within.ensures ∙ c.if1.false)
+returns_2 : tie.Need-returns
+returns_2 c = name_not _ (sym c.is_within.ensures ∙ c.if-is_within.false)
 
 pub is_name_spec : {M : Type 1} → statement M
 is_name_spec = tie.close (tie.spec (search rules) (search rules) returns returns_2)

@@ -10,30 +10,30 @@ use borrow.Author.Rules.{rules}
 use Rattle.names.proofs.same_word.Statement.{statement}
 use Rattle.names.proofs.same_word.Tie as tie
 
-abbrev invariant_loop : tie.invariant_loop
+abbrev invariant_loop : tie.invariant-loop-i
 invariant_loop a b i₀ i = (length a ≡ length b) × (same a b ≡ same (drop i a) (drop i b))
 
-abbrev decreases_loop : tie.decreases_loop
+abbrev decreases_loop : tie.decreases-loop-i
 decreases_loop a b i₀ i = length a - i
 
-returns : tie.Need-returns invariant_loop decreases_loop
-returns c = sym (same_unlike _ _ c.if1.true)
+returns : tie.Need-returns-then-a-b invariant_loop decreases_loop
+returns c = sym (same_unlike _ _ c.if-a-b.true)
 
-loop_holds : tie.Need-loop-init invariant_loop decreases_loop
+loop_holds : tie.Need-loop-i-init invariant_loop decreases_loop
 loop_holds c = (omega arith, refl)
 
-returns_2 : tie.Need-returns-2 invariant_loop decreases_loop
+returns_2 : tie.Need-returns-then-a-i invariant_loop decreases_loop
 returns_2 c =
     let z = c.before.before.before.before in
-    sym (z.loop.invariant.1 ∙ same_turn _ _ _ c.before.before.before.loop-test.true (omega arith) ∙ rw (ne_eqb _ _ c.if2.true) refl)
+    sym (z.loop-i.invariant.1 ∙ same_turn _ _ _ c.loop-i-test.true (omega arith) ∙ rw (ne_eqb _ _ c.if-a-i.true) refl)
 
-loop_again : tie.Need-loop-preserved invariant_loop decreases_loop
+loop_again : tie.Need-loop-i-preserved invariant_loop decreases_loop
 loop_again c =
     let z = c.before.before.before.before in
-    (z.loop.invariant.0, z.loop.invariant.1 ∙ same_turn _ _ _ c.before.before.before.loop-test.true (omega arith) ∙ rw (eq-eqb _ _ c.if2.false))
+    (z.loop-i.invariant.0, z.loop-i.invariant.1 ∙ same_turn _ _ _ c.loop-i-test.true (omega arith) ∙ rw (eq-eqb _ _ c.if-a-i.false))
 
-returns_3 : tie.Need-returns-3 invariant_loop decreases_loop
-returns_3 c = sym (c.before.loop.invariant.1 ∙ same_end _ _ _ c.loop-test.false (omega arith))
+returns_3 : tie.Need-returns invariant_loop decreases_loop
+returns_3 c = sym (c.loop-i.invariant.1 ∙ same_end _ _ _ c.loop-i-test.false (omega arith))
 
 pub same_word_spec : {M : Type 1} → statement M
 same_word_spec =

@@ -9,30 +9,30 @@ use borrow.Author.Rules.{rules}
 use Rattle.number.proofs.digits.Statement.{statement}
 use Rattle.number.proofs.digits.Tie as tie
 
-abbrev invariant_loop : tie.invariant_loop
+abbrev invariant_loop : tie.invariant-loop-i
 invariant_loop w at i₀ i = i + count w i ≡ at + count w at
 
-abbrev decreases_loop : tie.decreases_loop
+abbrev decreases_loop : tie.decreases-loop-i
 decreases_loop w at i₀ i = length w - i
 
-loop_holds : tie.Need-loop-init invariant_loop decreases_loop
+loop_holds : tie.Need-loop-i-init invariant_loop decreases_loop
 loop_holds c = refl
 
-loop_again : tie.Need-loop-preserved invariant_loop decreases_loop
+loop_again : tie.Need-loop-i-preserved invariant_loop decreases_loop
 unfolding count
 loop_again c =
     let t = c.before.before.before in
-    sym (run_on is_digit _ _ t.loop-test.true (sym c.before.is_digit.ensures ∙ c.if1.true)) ∙ t.before.loop.invariant
+    sym (run_on is_digit _ _ t.loop-i-test.true (sym c.is_digit.ensures ∙ c.if-is_digit.true)) ∙ t.loop-i.invariant
 
-returns : tie.Need-returns invariant_loop decreases_loop
+returns : tie.Need-returns-else-is_digit invariant_loop decreases_loop
 unfolding count
 returns c =
     let t = c.before.before.before in
-    sym (run_off is_digit _ _ t.loop-test.true (sym c.before.is_digit.ensures ∙ c.if1.false)) ∙ t.before.loop.invariant
+    sym (run_off is_digit _ _ t.loop-i-test.true (sym c.is_digit.ensures ∙ c.if-is_digit.false)) ∙ t.loop-i.invariant
 
-returns_2 : tie.Need-returns-2 invariant_loop decreases_loop
+returns_2 : tie.Need-returns invariant_loop decreases_loop
 unfolding count
-returns_2 c = sym (run_end is_digit _ _ c.loop-test.false) ∙ c.before.loop.invariant
+returns_2 c = sym (run_end is_digit _ _ c.loop-i-test.false) ∙ c.loop-i.invariant
 
 pub digits_spec : {M : Type 1} → statement M
 digits_spec =

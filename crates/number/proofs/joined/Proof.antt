@@ -15,21 +15,21 @@ module _ (c : tie.Start) where
   part : says c.args.w.now (c.args.e + 1) * 10 ^ (6 - c.args.m) < 1000000
   part = fraction_small _ _ _ c.requires.1.1.0 c.requires.1.1.1.0
 
-mul_result : tie.Need-overflow-mul-result
+mul_result : tie.Need-overflow_mul-result
 mul_result c = omega (arith, whole c.before.before, c.said.ensures)
 
-mul_result_2 : tie.Need-overflow-mul-result-2
+mul_result_2 : tie.Need-overflow_mul-result-2
 mul_result_2 c =
     let z = c.before.before.before.before in
-    record { fits = rw (c.before.said2.ensures, c.scale.ensures) (omega (arith, part z)) }
+    record { fits = rw (c.said-2.ensures, c.scale.ensures) (omega (arith, part z)) }
 
-add_result : tie.Need-overflow-add-result
+add_result : tie.Need-overflow_add-result
 add_result c =
     let z = c.before.before.before.before in
-    record { fits = rw (c.before.before.said.ensures, c.before.said2.ensures, c.scale.ensures) (omega (arith, part z, whole z)) }
+    record { fits = rw (c.said.ensures, c.said-2.ensures, c.scale.ensures) (omega (arith, part z, whole z)) }
 
 returns : tie.Need-returns
-returns c = rw (c.before.before.said.ensures, c.before.said2.ensures, c.scale.ensures)
+returns c = rw (c.said.ensures, c.said-2.ensures, c.scale.ensures)
 
 pub joined_spec : {M : Type 1} → statement M
 joined_spec =

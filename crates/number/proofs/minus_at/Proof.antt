@@ -6,17 +6,17 @@ use borrow.Author.Rules.{rules}
 use Rattle.number.proofs.minus_at.Statement.{statement}
 use Rattle.number.proofs.minus_at.Tie as tie
 
-returns : tie.Need-returns
+returns : tie.Need-returns-then-w-eq45
 unfolding minus
-returns c = simp (eq-eqb _ _ c.if2.true)
+returns c = simp (eq-eqb _ _ c.if-w-eq45.true)
 
-returns_2 : tie.Need-returns-2
+returns_2 : tie.Need-returns-else-w-eq45
 unfolding minus
-returns_2 c = simp (ne_eqb _ _ c.if2.false)
+returns_2 c = simp (ne_eqb _ _ c.if-w-eq45.false)
 
-returns_3 : tie.Need-returns-3
+returns_3 : tie.Need-returns-else-w-gt0
 unfolding minus
-returns_3 c = simp (get_or-eq_default c.before.args.w.now 0 c.if1.false)
+returns_3 c = simp (get_or-eq_default c.args.w.now 0 c.if-w-gt0.false)
 
 pub minus_at_spec : {M : Type 1} → statement M
 minus_at_spec = tie.close (tie.spec (search rules) returns returns_2 returns_3)

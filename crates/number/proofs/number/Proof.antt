@@ -13,64 +13,64 @@ use Rattle.number.proofs.number.Statement.{statement}
 use Rattle.number.proofs.number.Tie as tie
 
 -- after both runs of digits: n and m are the definition's, and the first run ends in the word
-module _ (c : tie.After-digits2) where
+module _ (c : tie.After-digits-f) where
   w : List ℕ
-  w = c.before.before.before.before.args.w.now
+  w = c.args.w.now
 
   a : ℕ
-  a = c.before.before.minus-at.result
+  a = c.minus_at-a.result
 
   e : ℕ
-  e = c.before.digits.result
+  e = c.digits-e.result
 
   f : ℕ
-  f = c.digits2.result
+  f = c.digits-f.result
 
   first : e - a ≡ count w a
   unfolding w a e
-  first = omega (arith, c.before.digits.ensures)
+  first = omega (arith, c.digits-e.ensures)
 
   second : f - (e + 1) ≡ count w (e + 1)
   unfolding w e f
-  second = omega (arith, c.digits2.ensures)
+  second = omega (arith, c.digits-f.ensures)
 
   ends : e ≤ length w
   unfolding w a e
-  ends = omega (arith, c.before.digits.ensures, c.before.before.minus-at.ensures, minus_le w, count_le w a)
+  ends = omega (arith, c.digits-e.ensures, c.minus_at-a.ensures, minus_le w, count_le w a)
 
-add_digits : tie.Need-overflow-add-digits
+add_digits : tie.Need-overflow_add-e
 add_digits c =
-    let w = c.before.before.before.args.w.now in
-    omega (arith, c.digits.ensures, c.before.minus-at.ensures, minus_le w, count_le w c.before.minus-at.result, c.before.before.before.well-formed.0)
+    let w = c.args.w.now in
+    omega (arith, c.digits-e.ensures, c.minus_at-a.ensures, minus_le w, count_le w c.minus_at-a.result, c.well_formed.0)
 
 shaped_requires : tie.Need-shaped-requires
 unfolding w e f
-shaped_requires c κs = (ends c, omega (arith, second c, ends c, count_le (w c) (e c + 1), c.before.before.before.before.well-formed.0))
+shaped_requires c κs = (ends c, omega (arith, second c, ends c, count_le (w c) (e c + 1), c.well_formed.0))
 
 joined_requires : tie.Need-joined-requires
 unfolding w a e f
 joined_requires c κs =
     let d = c.before.before in
-    let (b5, b6) = right_bounds _ _ _ _ (second d) (sym c.before.shaped.ensures ∙ c.if1.true) in
-    (first d, (b5, (second d, (b6, omega (arith, ends d, d.before.before.before.before.well-formed.0)))))
+    let (b5, b6) = right_bounds _ _ _ _ (second d) (sym c.shaped.ensures ∙ c.if-shaped.true) in
+    (first d, (b5, (second d, (b6, omega (arith, ends d, d.well_formed.0)))))
 
 -- what the shape decides
 shape : (c : tie.After-shaped) (t : Bool) → c.shaped.result ≡ t → let d = c.before in number_of (w d) ≡ cond t (some (eqb (a d) 1) (says (w d) (a d) * 1000000 + says (w d) (e d + 1) * 10 ^ (6 - (f d - (e d + 1)))) (f d - (e d + 1))) none
 unfolding w a e f
 shape c t h =
     let d = c.before in
-    number_by (w d) (a d) (e d) (e d - a d) (f d - (e d + 1)) d.before.before.minus-at.ensures d.before.digits.ensures (first d) (second d) t
+    number_by (w d) (a d) (e d) (e d - a d) (f d - (e d + 1)) d.minus_at-a.ensures d.digits-e.ensures (first d) (second d) t
     (sym c.shaped.ensures ∙ h)
 
-returns : tie.Need-returns
+returns : tie.Need-returns-then-shaped
 unfolding w a e f
 returns c =
     let d = c.before.before.before in
-    c.kept.ensures ∙ rw c.before.joined.ensures (sym (shape d true c.before.before.if1.true))
+    c.kept.ensures ∙ rw c.joined.ensures (sym (shape d true c.if-shaped.true))
 
-returns_2 : tie.Need-returns-2
+returns_2 : tie.Need-returns-else-shaped
 unfolding w a e f
-returns_2 c = c.no_number.ensures ∙ sym (shape c.before.before false c.before.if1.false)
+returns_2 c = c.no_number.ensures ∙ sym (shape c.before.before false c.if-shaped.false)
 
 pub number_spec : {M : Type 1} → statement M
 number_spec =

@@ -35,10 +35,10 @@ start l = (at_clear l).before.before.before.before.before
 
 -- there are few half-edges, and the memory is long enough
 few : (c : tie.In-loop-h invariant_loop decreases_loop) → c.loop-h.h < 12288
-few c = let s = start c.before in omega (arith, few_walkable s.args.bytes.now s.pre.0, (at_clear c.before).halves_of-n.ensures)
+few c = let s = start c.before in omega (arith, few_walkable s.args.bytes.now s.requires.0, (at_clear c.before).halves_of-n.ensures)
 
 long : (l : tie.At-loop-h invariant_loop decreases_loop) → work_size ≤ length l.loop-h.work
-long l = omega (arith, (start l).requires.1, l.loop-h.invariant.2, (at_clear l).clear_to.auto.0)
+long l = omega (arith, (start l).requires.1, l.loop-h.invariant.2, (at_clear l).clear_to.auto.work)
 
 loop_holds : tie.Need-loop-h-init invariant_loop decreases_loop
 loop_holds c =
@@ -49,13 +49,13 @@ loop_holds c =
 
 is_run_requires : tie.Need-is_run-requires invariant_loop decreases_loop
 is_run_requires c κs =
-    let l = c.before.before.before.before in
+    let l = c.before.before.before in
     let s = (start l).requires in
     ((s.0, search rules, c.from_of-a.ensures.1, c.to_of-b.ensures.1), (long l, l.loop-h.invariant.3))
 
 -- what `is_run` has told of half-edge h
 told : (c : tie.After-is_run invariant_loop decreases_loop)
-    → let l = c.before.before.before.before.before in
+    → let l = c.before.before.before.before in
     c.is_run.result ≡ repeats (parts_of (start l).args.bytes.now) l.loop-h.h
 unfolding repeats
 told c = rw (← c.from_of-a.ensures.0, ← c.to_of-b.ensures.0) c.is_run.ensures
@@ -69,19 +69,19 @@ kept l =
 
 returns : tie.Need-returns-then-is_run invariant_loop decreases_loop
 returns c =
-    let l = c.before.before.before.before.before.before in
+    let l = c.before.before.before.before.before in
     (sym (lowest_hit _ _ _ l.loop-h.invariant.1 (sym (told c.before) ∙ c.if-is_run.true) (search rules)), (l.loop-h.invariant.3, kept l))
 
 loop_again : tie.Need-loop-h-preserved invariant_loop decreases_loop
 loop_again c =
     let put = c.before.before in
     let run = put.before.before.before.before in
-    let l = run.before.before.before.before.before in
+    let l = run.before.before.before.before in
     let v = put.chain_of.ensures in
-    let small = few run.before.before.before.before in (
+    let small = few run.before.before.before in (
       omega arith,
       lowest_more _ _ l.loop-h.invariant.1 (sym (told run) ∙ put.if-is_run.false),
-      put.put_last.auto.0 ∙ l.loop-h.invariant.2,
+      put.put_last.auto.work ∙ l.loop-h.invariant.2,
       half_chained chains chain_of _ _ _ _ _ _ _ small (omega (arith, small, long l)) l.loop-h.invariant.3 run.from_of-a.ensures.0 run.to_of-b.ensures.0 v put.put_last.ensures,
       past_last _ _ _ _ v.1 small put.put_last.ensures ∙ l.loop-h.invariant.4,
     )
@@ -97,7 +97,7 @@ returns_2 c =
 put_last_requires : tie.Need-put_last-requires invariant_loop decreases_loop
 put_last_requires c κs =
     let run = c.before.before.before in
-    let i = run.before.before.before.before in
+    let i = run.before.before.before in
     (c.chain_of.ensures.1, omega (arith, few i, long i.before))
 
 pub first_repeat_spec : {M : Type 1} → statement M

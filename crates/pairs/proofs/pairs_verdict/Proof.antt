@@ -27,8 +27,8 @@ apart c =
 
 first_wrong_adjacent_requires : tie.Need-first_wrong_adjacent-wrong-requires
 first_wrong_adjacent_requires c κs =
-    let past = c.before in
-    let found = past.before.before.before in
+    let past = c in
+    let found = past.before.before in
     let s = found.before.before.before.before in
     let p = parts_of s.args.bytes.now in
     let all : found.first_repeat-twice.result ≡ halves p =
@@ -38,8 +38,8 @@ first_wrong_adjacent_requires c κs =
 returns_2 : tie.Need-returns
 returns_2 c =
     let wrong = c.before in
-    let past = wrong.before.before in
-    let found = past.before.before.before in
+    let past = wrong.before in
+    let found = past.before.before in
     (wrong_answers _ _ _ _ (apart past) found.halves_of-n.ensures.0 wrong.first_wrong_adjacent-wrong.ensures c.first_rule-2.ensures, found.first_repeat-twice.ensures.1.1)
 
 -- places are numbers of half-edges

@@ -48,8 +48,8 @@ is_run_requires c κs =
     let ends = c.before in
     let count = ends.halves_of-n.ensures.0 in
     let s = start ends in (
-      (s.pre.0.0, omega (arith, count), ends.to_of-b.ensures.1, ends.from_of-a.ensures.1),
-      (s.pre.1.0, subst (λ (k : ℕ). Chained chains (chain (parts ends)) s.args.work.now k) (sym count) s.pre.1.1),
+      (s.requires.0.0, omega (arith, count), ends.to_of-b.ensures.1, ends.from_of-a.ensures.1),
+      (s.requires.1.0, subst (λ (k : ℕ). Chained chains (chain (parts ends)) s.args.work.now k) (sym count) s.requires.1.1),
     )
 
 runs_so_requires : tie.Need-runs_so-requires

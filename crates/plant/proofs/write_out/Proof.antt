@@ -22,7 +22,7 @@ known c = c.before.before
 sized : (c : tie.After-planted-numbers) → Sized (planted (parts_of (known c).before.args.bytes.now))
 sized c =
     let s = (known c).before in
-    sized_form s.args.bytes.now (record { byte = λ i. omega (arith, (known c).shared-slice-known.given i) }) s.pre.0 s.pre.1
+    sized_form s.args.bytes.now (record { byte = λ i. omega (arith, (known c).shared-slice-known.given i) }) s.requires.0 s.requires.1
 
 -- the form is as long as the code found
 long : (c : tie.After-start-by) → c.start_by_lem.result ≡ length (planted_form (known c.before).before.args.bytes.now)
@@ -50,7 +50,7 @@ write_planted_requires : tie.Need-write-planted-requires
 write_planted_requires c κs =
     let l = c.before.before in
     let s = (known l.before).before in
-    ((s.pre.0, s.pre.1, l.before.planted-numbers.ensures), room_told s.args.bytes.now _ (omega (arith, long l, c.before.if1.false)))
+    ((s.requires.0, s.requires.1, l.before.planted-numbers.ensures), room_told s.args.bytes.now _ (omega (arith, long l, c.before.if1.false)))
 
 returns_2 : tie.Need-returns-2
 returns_2 c =

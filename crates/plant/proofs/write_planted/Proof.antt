@@ -42,7 +42,7 @@ write_head_requires c κs =
 
 -- the header stands in the output, over its old bytes and over itself
 head : (c : tie.After-write-head invariant_loop decreases_loop) → let s = (known c).before in UpTo (floor s) s.args.out.now c.write-head.new.1.1.0 136 0
-head c = let s = (known c).before in up_start (floor s) (sized (known c)) s.args.out.now s.pre.1 _ s.pre.0.2 (unfold planted in c.write-head.ensures)
+head c = let s = (known c).before in up_start (floor s) (sized (known c)) s.args.out.now s.requires.1 _ s.requires.0.2 (unfold planted in c.write-head.ensures)
 
 again : (c : tie.After-write-head invariant_loop decreases_loop) → let s = (known c).before in UpTo (floor s) c.write-head.new.1.1.0 c.write-head.new.1.1.0 136 0
 again c =
@@ -62,7 +62,7 @@ put_table_requires c κs =
     let w = c.before.before.before.before.before in
     let s = (known w).before in
     let r = up_room (floor s) (sized (known w)) _ (room w) l.k (omega arith) l.invariant.0 in
-    (s.pre.0.0, s.pre.0.1, omega arith, r.0, r.1)
+    (s.requires.0.0, s.requires.0.1, omega arith, r.0, r.1)
 
 loop_again : tie.Need-loop-preserved invariant_loop decreases_loop
 loop_again c =

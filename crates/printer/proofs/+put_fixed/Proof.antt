@@ -31,7 +31,7 @@ put_fixed_returns : (t : ℕ) → put-fixed-lts.Need-returns (
   put-byte-reads.Learnt,
 ) (put_fixed_at t) put-fixed.Post
 unfolding fixed
-put_fixed_returns t c = rw c.if1.true (wrote_none _ _)
+put_fixed_returns t c = rw c.if-k-eq0.true (wrote_none _ _)
 
 put_fixed_sub_put_fixed : (t : ℕ) → put-fixed-lts.Need-overflow-sub-put-fixed (
   put_fixed_below t,
@@ -73,8 +73,8 @@ put_fixed_put_byte_requires : (t : ℕ) → put-fixed-lts.Need-put-byte-requires
 ) (put_fixed_at t) put-fixed.Post
 put_fixed_put_byte_requires t c κs =
     let e = c.before.before.before in
-    let a = e.before.before.before.before.args in
-    omega (arith, e.put-fixed.ensures.next, length_fixed (a.k - 1) (a.v / 10), e.before.before.before.before.requires)
+    let a = e.args in
+    omega (arith, e.put_fixed-e.ensures.next, length_fixed (a.k - 1) (a.v / 10), e.requires)
 
 put_fixed_same_length : (t : ℕ) → put-fixed-lts.Need-same-length (
   put_fixed_below t,
@@ -92,7 +92,7 @@ put_fixed_returns_2 : (t : ℕ) → put-fixed-lts.Need-returns-2 (
 ) (put_fixed_at t) put-fixed.Post
 put_fixed_returns_2 t c =
     let e = c.before.before.before.before.before.before in
-    rw (fixed_pos _ _ e.before.before.if1.false) (wrote_then e.put-fixed.ensures c.before.before.put_byte.ensures)
+    rw (fixed_pos _ _ e.if-k-eq0.false) (wrote_then e.put_fixed-e.ensures c.put_byte.ensures)
 
 pub +put_fixed_spec : {M : Type 1} → statement M
 +put_fixed_spec = close μ_put_fixed λ t. put-fixed-lts.spec (

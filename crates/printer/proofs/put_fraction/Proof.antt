@@ -8,20 +8,20 @@ use borrow.Author.Rules.{rules}
 use Rattle.printer.proofs.put_fraction.Statement.{statement}
 use Rattle.printer.proofs.put_fraction.Tie as tie
 
-returns : tie.Need-returns
+returns : tie.Need-returns-then-p-eq0
 unfolding fraction
-returns c = rw c.if1.true (wrote_none _ _)
+returns c = rw c.if-p-eq0.true (wrote_none _ _)
 
-div_put_fixed : tie.Need-nonzero-div-put-fixed
-div_put_fixed c = rw c.before.before.before.before.before.scale.ensures (pow_pos_of 10 _ (omega arith))
+div_put_fixed : tie.Need-nonzero_div-v
+div_put_fixed c = rw c.scale-d.ensures (pow_pos_of 10 _ (omega arith))
 
-returns_2 : tie.Need-returns-2
+returns_2 : tie.Need-returns
 returns_2 c =
     let f = c.before.before in
     let p = f.before.before.before.before in
     let z = p.before.before in
-    let s : Wrote _ _ _ _ _ = rw z.scale.ensures at f.put-fixed.ensures in
-    rw (fraction_pos _ _ z.before.if1.false) (wrote_then p.put_byte.ensures s)
+    let s : Wrote _ _ _ _ _ = rw z.scale-d.ensures at f.put_fixed.ensures in
+    rw (fraction_pos _ _ z.if-p-eq0.false) (wrote_then p.put_byte-e.ensures s)
 
 pub put_fraction_spec : {M : Type 1} → statement M
 put_fraction_spec =

@@ -4,11 +4,11 @@ use borrow.Author.Rules.{rules}
 use Rattle.printer.proofs.put_minus.Statement.{statement}
 use Rattle.printer.proofs.put_minus.Tie as tie
 
-returns : tie.Need-returns
-returns c = rw c.before.before.before.before.if1.true c.before.before.put_byte.ensures
+returns : tie.Need-returns-then-neg
+returns c = rw c.if-neg.true c.put_byte.ensures
 
-returns_2 : tie.Need-returns-2
-returns_2 c = rw c.if1.false (wrote_none _ _)
+returns_2 : tie.Need-returns
+returns_2 c = rw c.if-neg.false (wrote_none _ _)
 
 pub put_minus_spec : {M : Type 1} → statement M
 put_minus_spec = tie.close (tie.spec (search rules) (search rules) returns returns_2)

@@ -31,7 +31,7 @@ returns_2 c =
     let x = at-spot.spot-at.ensures.1 ∙ to_z-of_z w64 _ s.fits.x in
     let y = at-spot.spot-at.ensures.2 ∙ to_z-of_z w64 _ s.fits.y in
     c.told2.ensures
-    ∙ walk_answer _ s.pre.0 (some at-spot.before) _ at_root.root-of.ensures s.args.x s.args.y s.pre.1.le s.pre.2.le _ _ _
+    ∙ walk_answer _ s.requires.0 (some at-spot.before) _ at_root.root-of.ensures s.args.x s.args.y s.requires.1.le s.requires.2.le _ _ _
     at-spot.before.before.face-count.ensures.0
     (rw (x, y) at c.before.look.ensures.0)
     (rw (x, y) at c.before.look.ensures.1)

@@ -9,8 +9,8 @@ use Rattle.slope.proofs.beside.Tie as tie
 returns : tie.Need-returns
 unfolding beside
 returns c =
-    let h = c.before.before.before.before.before.requires in
-    let r = stored (crossed h.0.x h.0.y h.1.x h.1.y h.2 h.3 c.cross-of.ensures) tt in
+    let h = c.requires in
+    let r = stored (crossed h.0.x h.0.y h.1.x h.1.y h.2 h.3 c.cross_of.ensures) tt in
     (r.same, reads_within r)
 
 pub beside_spec : {M : Type 1} → statement M

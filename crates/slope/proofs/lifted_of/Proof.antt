@@ -8,26 +8,26 @@ use Rattle.slope.proofs.Machine.{one_share}
 use Rattle.slope.proofs.lifted_of.Statement.{statement}
 use Rattle.slope.proofs.lifted_of.Tie as tie
 
-add_result : tie.Need-overflow-add-result
+add_result : tie.Need-overflow_add-result
 add_result c =
     let b = c.before.before.before in
-    fits (plus (param b.before.before.before.share-of.ensures.1 tt) (param b.share-of2.ensures.1 tt)) tt
+    fits (plus (param b.share_of-of_a.ensures.1 tt) (param b.share_of-of_b.ensures.1 tt)) tt
 
-add_result_2 : tie.Need-overflow-add-result-2
+add_result_2 : tie.Need-overflow_add-result-2
 add_result_2 c =
     let b = c.before.before.before in
-    fits (plus (stored (plus (param b.before.before.before.share-of.ensures.1 tt) (param b.share-of2.ensures.1 tt)) tt) (param c.share-of3.ensures.1 tt)) tt
+    fits (plus (stored (plus (param b.share_of-of_a.ensures.1 tt) (param b.share_of-of_b.ensures.1 tt)) tt) (param c.share_of-of_c.ensures.1 tt)) tt
 
 returns : tie.Need-returns
 unfolding lifted
 returns c =
     let b = c.before.before.before in
     let a = b.before.before.before in
-    let h = a.before.before.before.requires in
-    let of-a = one_share _ _ h.3 h.4 h.0.z a.before.before.beside.ensures.0 a.before.before.beside.ensures.1 a.share-of.ensures.0 in
-    let of-b = one_share _ _ h.3 h.4 h.1.z b.before.before.beside2.ensures.0 b.before.before.beside2.ensures.1 b.share-of2.ensures.0 in
-    let of_c = one_share _ _ h.3 h.4 h.2.z c.before.before.beside3.ensures.0 c.before.before.beside3.ensures.1 c.share-of3.ensures.0 in
-    let sum = plus (stored (plus (param a.share-of.ensures.1 tt) (param b.share-of2.ensures.1 tt)) tt) (param c.share-of3.ensures.1 tt) in
+    let h = a.requires in
+    let of-a = one_share _ _ h.3 h.4 h.0.z a.beside.ensures.0 a.beside.ensures.1 a.share_of-of_a.ensures.0 in
+    let of-b = one_share _ _ h.3 h.4 h.1.z b.beside-2.ensures.0 b.beside-2.ensures.1 b.share_of-of_b.ensures.0 in
+    let of_c = one_share _ _ h.3 h.4 h.2.z c.beside-3.ensures.0 c.beside-3.ensures.1 c.share_of-of_c.ensures.0 in
+    let sum = plus (stored (plus (param a.share_of-of_a.ensures.1 tt) (param b.share_of-of_b.ensures.1 tt)) tt) (param c.share_of-of_c.ensures.1 tt) in
     let r = stored (called (ap₂ (λ (p q : ℤ). p +ℤ q) (ap₂ (λ (p q : ℤ). p +ℤ q) of-a of-b) of_c) sum) tt in
     (r.same, reads_within r)
 

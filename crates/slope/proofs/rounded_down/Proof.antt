@@ -27,29 +27,29 @@ module _ {n d z : ℤ} (u : Reads 1 z z) (hn : Within most_lifted n) (hd : Withi
   less_part : Reads (2 + most_lifted) (z -ℤ read (quot_z (read (z -ℤ read n)) (read d))) (z -ℤ quot_z (z -ℤ n) d)
   less_part = less u (stored part tt)
 
-sub_result : tie.Need-overflow-sub-result
-sub_result c = let h = c.before.requires in search (fits (less_n one h.0 h.1) tt, fits (less_n zero h.0 h.1) tt)
+sub_result : tie.Need-overflow_sub-result
+sub_result c = let h = c.requires in search (fits (less_n one h.0 h.1) tt, fits (less_n zero h.0 h.1) tt)
 
-div_result : tie.Need-nonzero-div-result
-div_result c = let h = c.before.requires in (some_divisor h.2, search (fits (part one h.0 h.1) tt, fits (part zero h.0 h.1) tt))
+div_result : tie.Need-nonzero_div-result
+div_result c = let h = c.requires in (some_divisor h.2, search (fits (part one h.0 h.1) tt, fits (part zero h.0 h.1) tt))
 
-sub_result_2 : tie.Need-overflow-sub-result-2
-sub_result_2 c = let h = c.before.requires in search (fits (less_part one h.0 h.1) tt, fits (less_part zero h.0 h.1) tt)
+sub_result_2 : tie.Need-overflow_sub-result-then-n-lt0
+sub_result_2 c = let h = c.requires in search (fits (less_part one h.0 h.1) tt, fits (less_part zero h.0 h.1) tt)
 
-returns : tie.Need-returns
+returns : tie.Need-returns-then-n-lt0
 returns c =
     let s = c.before in
     let h = s.requires in
-    (stored (called (below_zero s.args.n s.args.d h.2 (under s.args.n (pos 0) s.ranges.n c.if1.true)) (less_part one h.0 h.1)) tt).same
+    (stored (called (below_zero s.args.n s.args.d h.2 (under s.args.n (pos 0) s.ranges.n c.if-n-lt0.true)) (less_part one h.0 h.1)) tt).same
 
-div_result_2 : tie.Need-nonzero-div-result-2
-div_result_2 c = let h = c.before.requires in (some_divisor h.2, fits (divided (param h.0 tt) (param h.1 tt)) tt)
+div_result_2 : tie.Need-nonzero_div-result-2
+div_result_2 c = let h = c.requires in (some_divisor h.2, fits (divided (param h.0 tt) (param h.1 tt)) tt)
 
-returns_2 : tie.Need-returns-2
+returns_2 : tie.Need-returns
 returns_2 c =
     let s = c.before in
     let h = s.requires in
-    (stored (called (from_zero s.args.n s.args.d h.2 (under s.args.n (pos 0) s.ranges.n c.if1.false)) (divided (param h.0 tt) (param h.1 tt))) tt).same
+    (stored (called (from_zero s.args.n s.args.d h.2 (under s.args.n (pos 0) s.ranges.n c.if-n-lt0.false)) (divided (param h.0 tt) (param h.1 tt))) tt).same
 
 pub rounded_down_spec : {M : Type 1} → statement M
 rounded_down_spec = tie.close (tie.spec sub_result div_result sub_result_2 returns div_result_2 returns_2)

@@ -3,7 +3,7 @@ use Rattle.wire.proofs.Signed.{times, fits, stored, param, reads_within}
 use Rattle.slope.proofs.share_of.Statement.{statement}
 use Rattle.slope.proofs.share_of.Tie as tie
 
-mul_result : tie.Need-overflow-mul-result
+mul_result : tie.Need-overflow_mul-result
 mul_result c = fits (times (param c.requires.0 tt) (param c.requires.1 tt)) tt
 
 returns : tie.Need-returns

@@ -29,7 +29,7 @@ loop_holds c =
 
 returns : tie.Need-returns-then-s-at invariant_loop decreases_loop
 returns c =
-    let z = c.before.before.before in
+    let z = c.before.before in
     let s = z.args.s.now in
     sym (z.loop-i.invariant.1 ∙ rw (line_none s z.loop-i.at c.if-s-at.true))
 

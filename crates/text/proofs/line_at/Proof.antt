@@ -13,9 +13,9 @@ use Rattle.text.proofs.line_at.Tie as tie
 returns : tie.Need-returns-then-s-at
 returns c = sym (line_past _ _ c.if-s-at.true)
 
-part_result_end : tie.Need-slice_bounds-result-end
+part_result_end : tie.Need-slice_bounds-result-end-2
 part_result_end c =
-    let z = c.before.before in
+    let z = c.before.before.before in
     (piece_within is_end z.args.s.now z.args.at _ c.line_end-e.ensures (omega arith)).1
 
 returns_2 : tie.Need-returns

@@ -78,7 +78,7 @@ loop_again c =
     let F = face_of (parts s) in
     ⊎_elim
     (λ w.
-    let new = face_new T F s.args.work.now l.work l.n l.invariant.2 l.invariant.3 (sym c.before.is-inner-node.ensures ∙ not-true _ w.0.taken) (rw w.1.ensures at w.3.left) in
+    let new = face_new T F s.args.work.now l.work l.n l.invariant.2 l.invariant.3 (sym c.before.is-inner-node.ensures ∙ not-true _ w.0.true) (rw w.1.ensures at w.3.left) in
     (omega arith, ap length w.4 ∙ simp length-set l.invariant.1, new.0, w.4 ∙ (ap (λ (k : ℕ). set l.work k 1) w.1.ensures ∙ new.1)))
     (λ w.
     let same = faces_inner T F l.n (sym c.before.is-inner-node.ensures ∙ not-false _ w.0.left) in

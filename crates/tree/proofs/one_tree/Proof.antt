@@ -53,7 +53,7 @@ returns_3 c = (both_none _ (at_covers c.before).covers.result c.if2.false ∙ an
 spans_requires : tie.Need-spans-requires
 spans_requires c κs =
     let s = start c.before in
-    (s.pre.0, (omega (arith, c.before.root-of.ensures, s.pre.0.1.root (omega arith)), s.pre.1))
+    (s.requires.0, (omega (arith, c.before.root-of.ensures, s.requires.0.1.root (omega arith)), s.requires.1))
 
 pub one_tree_spec : {M : Type 1} → statement M
 one_tree_spec =

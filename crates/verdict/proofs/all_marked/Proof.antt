@@ -23,10 +23,10 @@ loop_holds c = (omega arith, all_none _)
 -- where a byte that is marked and one that is not meet
 told : (c : tie.Joined-work-i-eq0 invariant_loop decreases_loop)
     → let l = c.before.before.before in
-    c.if-work-i-eq0.full ≡ all_under (l.loop-i.i + 1) (is_marked l.before.args.work.now)
+    c.if-work-i-eq0.full ≡ all_under (l.loop-i.i + 1) (is_marked l.args.work.now)
 told c = elim c.if-work-i-eq0.branch [
   | then-work-i-eq0 w ↦ w.full-is ∙ all_fails _ _ (not_marked _ _ w.if-work-i-eq0.true)
-  | else-work-i-eq0 w ↦ w.full-is ∙ c.before.before.before.loop-i.invariant.1 ∙ all_more _ _ (is_marked_lem _ _ w.if-work-i-eq0.false)
+  | else-work-i-eq0 w ↦ w.full-is ∙ c.loop-i.invariant.1 ∙ all_more _ _ (is_marked_lem _ _ w.if-work-i-eq0.false)
 ]
 
 loop_again : tie.Need-loop-i-preserved invariant_loop decreases_loop
@@ -34,8 +34,8 @@ loop_again c = (omega arith, told c)
 
 returns : tie.Need-returns invariant_loop decreases_loop
 returns c =
-    let l = c.before.loop-i in
-    let a = c.before.before.args in
+    let l = c.loop-i in
+    let a = c.args in
     let e : l.i ≡ a.n = omega arith in
     l.invariant.1 ∙ ap (λ (k : ℕ). all_under k (is_marked a.work.now)) e
 

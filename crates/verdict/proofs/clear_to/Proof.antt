@@ -21,16 +21,16 @@ loop_holds c = (omega arith, refl, cleared_none _)
 
 loop_again : tie.Need-loop-k-preserved invariant_loop decreases_loop
 loop_again c =
-    let l = c.before.loop-k in
+    let l = c.loop-k in
     (omega arith, simp length-set l.invariant.1, ap (λ (w : List ℕ). set w l.k 0) l.invariant.2 ∙ cleared_more l.k _ (omega arith))
 
 same_length : tie.Need-shape_of-work invariant_loop decreases_loop
-same_length c = c.before.loop-k.invariant.1
+same_length c = c.loop-k.invariant.1
 
 returns : tie.Need-returns invariant_loop decreases_loop
 returns c =
-    let l = c.before.loop-k in
-    let a = c.before.before.args in
+    let l = c.loop-k in
+    let a = c.args in
     let e : l.k ≡ a.n = omega arith in
     l.invariant.2 ∙ ap (λ (k : ℕ). cleared_to k a.work.now) e
 

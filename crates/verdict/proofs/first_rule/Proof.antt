@@ -7,11 +7,11 @@ use Rattle.verdict.proofs.first_rule.Tie as tie
 
 returns : tie.Need-returns-then-broken
 unfolding rule
-returns c = let a = c.before.args in sym (ap (λ (b : Bool). rule a.number b a.place) c.if-broken.true)
+returns c = let a = c.args in sym (ap (λ (b : Bool). rule a.number b a.place) c.if-broken.true)
 
 returns_2 : tie.Need-returns
 unfolding rule
-returns_2 c = let a = c.before.args in sym (ap (λ (b : Bool). rule a.number b a.place) c.if-broken.false)
+returns_2 c = let a = c.args in sym (ap (λ (b : Bool). rule a.number b a.place) c.if-broken.false)
 
 pub first_rule_spec : {M : Type 1} → statement M
 first_rule_spec = tie.close (tie.spec returns returns_2)

@@ -40,7 +40,7 @@ returns_2 c =
     let d = named_of a in
     let n = d.before in
     let i = n.before in
-    entry_other _ _ _ i.before.before.word_count.ensures _ i.before.is-entry-long.ensures i.if1.taken _ n.name-fault.ensures d.if2.left _ a.before.names_in.ensures _ a.are_numbers.ensures y.if3.true c.if4.true
+    entry_other _ _ _ i.before.before.word_count.ensures _ i.before.is-entry-long.ensures i.if1.true _ n.name-fault.ensures d.if2.left _ a.before.names_in.ensures _ a.are_numbers.ensures y.if3.true c.if4.true
 
 is_among_requires : tie.Need-is-among-requires
 is_among_requires c κs =
@@ -57,7 +57,7 @@ returns_3 c =
     let d = named_of a in
     let n = d.before in
     let i = n.before in
-    entry_room _ _ _ i.before.before.word_count.ensures _ i.before.is-entry-long.ensures i.if1.taken _ n.name-fault.ensures d.if2.left _ a.before.names_in.ensures _ a.are_numbers.ensures _ _ true y.if3.taken w.before.if4.false w.word.ensures (few (start_of i)) c.before.is_among.ensures c.if5.true
+    entry_room _ _ _ i.before.before.word_count.ensures _ i.before.is-entry-long.ensures i.if1.true _ n.name-fault.ensures d.if2.left _ a.before.names_in.ensures _ a.are_numbers.ensures _ _ true y.if3.true w.before.if4.false w.word.ensures (few (start_of i)) c.before.is_among.ensures c.if5.true
 
 returns_4 : tie.Need-returns-4
 unfolding state_of names_of
@@ -68,7 +68,7 @@ returns_4 c =
     let d = named_of a in
     let n = d.before in
     let i = n.before in
-    entry_room _ _ _ i.before.before.word_count.ensures _ i.before.is-entry-long.ensures i.if1.taken _ n.name-fault.ensures d.if2.left _ a.before.names_in.ensures _ a.are_numbers.ensures _ _ false y.if3.taken w.before.if4.false w.word.ensures (few (start_of i)) c.before.is_among.ensures c.if5.false
+    entry_room _ _ _ i.before.before.word_count.ensures _ i.before.is-entry-long.ensures i.if1.true _ n.name-fault.ensures d.if2.left _ a.before.names_in.ensures _ a.are_numbers.ensures _ _ false y.if3.true w.before.if4.false w.word.ensures (few (start_of i)) c.before.is_among.ensures c.if5.false
 
 returns_5 : tie.Need-returns-5
 unfolding state_of
@@ -77,7 +77,7 @@ returns_5 c =
     let d = named_of a in
     let n = d.before in
     let i = n.before in
-    entry_35 _ _ _ i.before.before.word_count.ensures _ i.before.is-entry-long.ensures i.if1.taken _ n.name-fault.ensures d.if2.left _ a.before.names_in.ensures _ a.are_numbers.ensures c.if3.false
+    entry_35 _ _ _ i.before.before.word_count.ensures _ i.before.is-entry-long.ensures i.if1.true _ n.name-fault.ensures d.if2.left _ a.before.names_in.ensures _ a.are_numbers.ensures c.if3.false
 
 returns_6 : tie.Need-returns-6
 unfolding state_of

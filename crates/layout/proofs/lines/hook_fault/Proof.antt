@@ -27,7 +27,7 @@ is_among_requires c κs = let g = c.before.before.before.before in (g.requires.0
 door_fault_requires : tie.Need-door-fault-requires
 door_fault_requires c κs =
     let g = start_of c.before.before.before in
-    kept_rest 1 g.args.s.now g.args.starts.now 192 (length g.args.starts.now - 192) g.args.st.hooks (omega arith) g.pre.0.hooks
+    kept_rest 1 g.args.s.now g.args.starts.now 192 (length g.args.starts.now - 192) g.args.st.hooks (omega arith) g.requires.0.hooks
 
 returns : tie.Need-returns
 unfolding state_of names_of

@@ -25,7 +25,7 @@ put_lowered_requires c κs =
     let b = gap_of c in
     let h = hook_of b in
     let g = start_of h in
-    omega (arith, b.put_byte.ensures.next, door_short g.args.k _ g.pre.1 _ h.if1.left c.word.ensures, g.pre.0)
+    omega (arith, b.put_byte.ensures.next, door_short g.args.k _ g.requires.1 _ h.if1.left c.word.ensures, g.requires.0)
 
 returns_2 : tie.Need-returns-2
 returns_2 c =
@@ -33,7 +33,7 @@ returns_2 c =
     let b = gap_of d.before in
     let h = hook_of b in
     let g = start_of h in
-    door_wrote g.args.k _ g.pre.1 _ h.if1.left d.before.word.ensures b.put_byte.ensures d.put-lowered.ensures
+    door_wrote g.args.k _ g.requires.1 _ h.if1.left d.before.word.ensures b.put_byte.ensures d.put-lowered.ensures
 
 pub put_door_spec : {M : Type 1} → statement M
 put_door_spec = tie.close (tie.spec returns (search rules) (search rules) put_lowered_requires (λ c. wrote_long (returns_2 c)) returns_2)

@@ -24,7 +24,7 @@ name : (c : tie.After-put-lowered) → c.put-lowered.result ≤ (start_of c).arg
 name c = omega (arith, c.put-lowered.ensures.next, length_lowered (start_of c).args.w.now, (start_of c).requires.1.0)
 
 door : (c : tie.After-put-door) → c.put-door.result ≤ (start_of (name_of c)).args.at + 33
-door c = let g = start_of (name_of c) in omega (arith, name (name_of c), door_end g.args.k _ g.pre.1.1 c.put-door.ensures)
+door c = let g = start_of (name_of c) in omega (arith, name (name_of c), door_end g.args.k _ g.requires.1.1 c.put-door.ensures)
 
 put_door_requires : tie.Need-put-door-requires
 put_door_requires c κs = let n = c.before.before.before in (omega (arith, name n, (start_of n).requires.0), (start_of n).requires.1.1)
@@ -33,21 +33,21 @@ put_numbers_requires : tie.Need-put-numbers-requires
 put_numbers_requires c κs =
     let d = door_of c in
     let g = start_of (name_of d) in
-    (omega (arith, door d, g.pre.0), few_words_of g.args.k _ g.pre.1.1)
+    (omega (arith, door d, g.requires.0), few_words_of g.args.k _ g.requires.1.1)
 
 put_byte_requires : tie.Need-put-byte-requires
 put_byte_requires c κs =
     let n = c.before.before.before in
     let d = door_of n.before in
     let g = start_of (name_of d) in
-    omega (arith, door d, numbers_end n.before.names_in.result (words g.args.l.now) (few_words_of g.args.k _ g.pre.1.1) n.put-numbers.ensures, g.pre.0)
+    omega (arith, door d, numbers_end n.before.names_in.result (words g.args.l.now) (few_words_of g.args.k _ g.requires.1.1) n.put-numbers.ensures, g.requires.0)
 
 returns : tie.Need-returns
 returns c =
     let n = c.before.before.before.before.before.before in
     let d = door_of n.before in
     let g = start_of (name_of d) in
-    entry_wrote g.args.k _ g.pre.1.1 g.args.w.now n.before.names_in.ensures (name_of d).put-lowered.ensures d.put-door.ensures n.put-numbers.ensures c.before.before.put_byte.ensures
+    entry_wrote g.args.k _ g.requires.1.1 g.args.w.now n.before.names_in.ensures (name_of d).put-lowered.ensures d.put-door.ensures n.put-numbers.ensures c.before.before.put_byte.ensures
 
 pub put_entry_spec : {M : Type 1} → statement M
 put_entry_spec =

@@ -71,7 +71,7 @@ put_section_requires c κs =
     let k = c.before.before.before.before.before in
     let o = old_of k in
     let g = start_of o in
-    ((omega (arith, first k), (omega arith, g.pre.1)), (old_right g.args.s.now g.args.r (sized g) g.pre.0 _ _ o.room_name_lem.ensures, kept_rooms _ _ (sized g) g.pre.0))
+    ((omega (arith, first k), (omega arith, g.requires.1)), (old_right g.args.s.now g.args.r (sized g) g.requires.0 _ _ o.room_name_lem.ensures, kept_rooms _ _ (sized g) g.requires.0))
 
 part_put_section_end : tie.Need-slice-bounds-put-section-end
 part_put_section_end c = let r = c.before.before.before.before.before in omega (arith, sized (start_of (old_of (key_of r))))
@@ -80,7 +80,7 @@ put_section_requires_2 : tie.Need-put-section-requires-2
 put_section_requires_2 c κs =
     let r = c.before.before.before.before.before.before in
     let g = start_of (old_of (key_of r)) in
-    ((omega (arith, rooms r), (omega arith, g.pre.1)), (inl refl, rw (part_is _ _ (sized g) g.pre.0 64 192 (omega arith)) (kept_tracks _ _ (sized g) g.pre.0)))
+    ((omega (arith, rooms r), (omega arith, g.requires.1)), (inl refl, rw (part_is _ _ (sized g) g.requires.0 64 192 (omega arith)) (kept_tracks _ _ (sized g) g.requires.0)))
 
 part_put_section_end_2 : tie.Need-slice-bounds-put-section-end-2
 part_put_section_end_2 c =
@@ -91,7 +91,7 @@ put_section_requires_3 : tie.Need-put-section-requires-3
 put_section_requires_3 c κs =
     let t = c.before.before.before.before.before.before in
     let g = start_of (old_of (key_of (rooms_of t))) in
-    ((omega (arith, tracks t), (omega arith, g.pre.1)), (inl refl, rw (part_is _ _ (sized g) g.pre.0 128 128 (omega arith)) (kept_obstacles _ _ (sized g) g.pre.0)))
+    ((omega (arith, tracks t), (omega arith, g.requires.1)), (inl refl, rw (part_is _ _ (sized g) g.requires.0 128 128 (omega arith)) (kept_obstacles _ _ (sized g) g.requires.0)))
 
 part_put_section_end_3 : tie.Need-slice-bounds-put-section-end-3
 part_put_section_end_3 c =
@@ -103,7 +103,7 @@ put_section_requires_4 c κs =
     let o = c.before.before.before.before.before.before in
     let n = old_of (key_of (rooms_of (tracks_of o))) in
     let g = start_of n in
-    ((omega (arith, obstacles o), (omega arith, g.pre.1)), (old_right g.args.s.now g.args.r (sized g) g.pre.0 _ _ n.room_name_lem.ensures, rw (part_is _ _ (sized g) g.pre.0 192 64 (omega arith)) (kept_hooks _ _ (sized g) g.pre.0)))
+    ((omega (arith, obstacles o), (omega arith, g.requires.1)), (old_right g.args.s.now g.args.r (sized g) g.requires.0 _ _ n.room_name_lem.ensures, rw (part_is _ _ (sized g) g.requires.0 192 64 (omega arith)) (kept_hooks _ _ (sized g) g.requires.0)))
 
 put_key_requires_2 : tie.Need-put-key-requires-2
 put_key_requires_2 c κs = let h = c.before.before.before.before in (omega (arith, hooks h), omega arith)
@@ -119,7 +119,7 @@ returns c =
     let k = key_of r in
     let n = old_of k in
     let g = start_of n in
-    form_wrote g.args.s.now g.args.r (sized g) g.pre.0 g.args.i _ n.room_name_lem.ensures g.args.name.now
+    form_wrote g.args.s.now g.args.r (sized g) g.requires.0 g.args.i _ n.room_name_lem.ensures g.args.name.now
     k.put-key.ensures r.put-section.ensures.0 t.put-section2.ensures.0 o.put-section3.ensures.0 h.put-section4.ensures.0 d.put-key2.ensures
 
 pub put_form_spec : {M : Type 1} → statement M

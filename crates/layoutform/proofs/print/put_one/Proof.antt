@@ -14,10 +14,10 @@ abbrev start_of : tie.After-word → tie.Start
 start_of c = c.before.before.before.before.before
 
 is_of_requires : tie.Need-is-of-requires
-is_of_requires c κs = let g = start_of c in (rw c.word.ensures (first_name g.args.k _ g.pre.1.1.1), g.pre.1.1.0)
+is_of_requires c κs = let g = start_of c in (rw c.word.ensures (first_name g.args.k _ g.requires.1.1.1), g.requires.1.1.0)
 
 put_entry_requires : tie.Need-put-entry-requires
-put_entry_requires c κs = let g = start_of c.before.before.before in (g.pre.0, (g.pre.1.0, g.pre.1.1.1))
+put_entry_requires c κs = let g = start_of c.before.before.before in (g.requires.0, (g.requires.1.0, g.requires.1.1.1))
 
 returns : tie.Need-returns
 returns c =
@@ -30,7 +30,7 @@ put_entry_requires_2 : tie.Need-put-entry-requires-2
 put_entry_requires_2 c κs =
     let w = c.before.before.before in
     let g = start_of w in
-    (g.pre.0, (omega (arith, ap length w.word.ensures, (name_long _ (first_name g.args.k _ g.pre.1.1.1)).1), g.pre.1.1.1))
+    (g.requires.0, (omega (arith, ap length w.word.ensures, (name_long _ (first_name g.args.k _ g.requires.1.1.1)).1), g.requires.1.1.1))
 
 returns_2 : tie.Need-returns-2
 returns_2 c =

@@ -27,8 +27,8 @@ count_of c = c.before.before.before.before
 named : (c : tie.After-put-name) → let g = start_of c in c.put-name.result ≤ g.args.at + 16
 named c =
     let g = start_of c in
-    let k = kept_short _ _ _ g.pre.1 g.args.k g.pre.0.1.1 in
-    omega (arith, c.put-name.ensures.next, shown_short g.args.layout.now g.args.starts.now g.args.i g.args.name.now g.args.k g.pre.0.1.0 k)
+    let k = kept_short _ _ _ g.requires.1 g.args.k g.requires.0.1.1 in
+    omega (arith, c.put-name.ensures.next, shown_short g.args.layout.now g.args.starts.now g.args.i g.args.name.now g.args.k g.requires.0.1.0 k)
 
 headed : (c : tie.After-put-plain) → let g = start_of (name_of (blank_of c)) in c.put-plain.result ≤ g.args.at + 22
 headed c =
@@ -62,7 +62,7 @@ put_seen_requires c κs =
     let e = c.before.before.before in
     let p = count_of e in
     let g = start_of (name_of (blank_of p)) in
-    (omega (arith, e.put-byte2.ensures.next, headed p, g.pre.0.0), (g.pre.0.1.0, g.pre.1))
+    (omega (arith, e.put-byte2.ensures.next, headed p, g.requires.0.0), (g.requires.0.1.0, g.requires.1))
 
 returns : tie.Need-returns
 returns c =
@@ -72,7 +72,7 @@ returns c =
     let b = blank_of p in
     let n = name_of b in
     let g = start_of n in
-    (room_wrote _ _ _ _ _ g.pre.1 _ _ _ g.pre.0.1.1 refl n.put-name.ensures b.put_byte.ensures p.put-plain.ensures e.put-byte2.ensures s.put-seen.ensures.0, omega (arith, s.put-seen.ensures.1, e.put-byte2.ensures.next, headed p, g.pre.1.few))
+    (room_wrote _ _ _ _ _ g.requires.1 _ _ _ g.requires.0.1.1 refl n.put-name.ensures b.put_byte.ensures p.put-plain.ensures e.put-byte2.ensures s.put-seen.ensures.0, omega (arith, s.put-seen.ensures.1, e.put-byte2.ensures.next, headed p, g.requires.1.few))
 
 pub put_room_spec : {M : Type 1} → statement M
 put_room_spec =
