@@ -82,6 +82,8 @@ pub grid_finite : {x : Float} → OnGrid x → finite x ≡ true
 grid_finite {x} g = go x g.sign g.number g.value
   where
     go : (x : Float) (s : Bool) (n : ℕ) → HasValue x s n 64 → finite x ≡ true
+    go nan s n v = elim v [ ]
+    go (inf _) s n v = elim v [ ]
     go (fin t m e) s n v = unfold finite in refl
 
 pub finite_number : (x : Float) → finite x ≡ true → T (not (is_nan x))

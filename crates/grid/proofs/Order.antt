@@ -228,6 +228,10 @@ module _ (x y : Float) (s t : Bool) (a b : ℕ) (v : HasValue x s a 64) (w : Has
   above (inf u) = two x y v w
     where
       two : (x y : Float) → HasValue x s a 64 → HasValue y t b 64 → le (inf u) x ≡ le (inf u) y
+      two nan _ v w = elim v [ ]
+      two (inf _) _ v w = elim v [ ]
+      two (fin s' m e) nan v w = elim w [ ]
+      two (fin s' m e) (inf _) v w = elim w [ ]
       two (fin s' m e) (fin t' n d) v w = unfold le lt eq in refl
   above (fin u m e) =
       le_at x u s m a e v
@@ -239,6 +243,10 @@ module _ (x y : Float) (s t : Bool) (a b : ℕ) (v : HasValue x s a 64) (w : Has
   under (inf u) = two x y v w
     where
       two : (x y : Float) → HasValue x s a 64 → HasValue y t b 64 → le x (inf u) ≡ le y (inf u)
+      two nan _ v w = elim v [ ]
+      two (inf _) _ v w = elim v [ ]
+      two (fin s' m e) nan v w = elim w [ ]
+      two (fin s' m e) (inf _) v w = elim w [ ]
       two (fin s' m e) (fin t' n d) v w = unfold le lt eq in refl
   under (fin u m e) =
       at_le x u s m a e v

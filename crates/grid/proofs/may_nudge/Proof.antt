@@ -19,10 +19,10 @@ asked : (c : tie.After-is_within) → c.is_within.result ≡ within largest_step
 asked c = c.is_within.ensures ∙ ap (within largest_step) (to_z-of_z w64 _ c.ranges.n)
 
 returns : tie.Need-returns-then-not-is_within
-returns c = sym (no_step _ c.args.n (sym (asked c.before) ∙ not-true _ c.if-not-is_within.true))
+returns c = sym (no_step _ c.args.n (sym (asked c.before) ∙ c.if-not-is_within.true))
 
 step : (c : tie.Else-not-is_within) → within largest_step c.args.n ≡ true
-step c = sym (asked c.before) ∙ not-false _ c.if-not-is_within.false
+step c = sym (asked c.before) ∙ c.if-not-is_within.false
 
 returns_2 : tie.Need-returns-then-not-z
 returns_2 c = sym (no_grid _ _ (sym (on_is _ _ c.scaled_of-z.ensures) ∙ not-true _ c.if-not-z.true))
