@@ -15,7 +15,7 @@ use Rattle.number.specs.declared.Num.{Num}
 use Rattle.letters.specs.Class.{is_digit}
 use Rattle.text.specs.Scan.{run}
 use Rattle.number.specs.Count.{value}
-use Rattle.number.specs.Number.{count, says, minus, right, some, none, number_of, fixed, width, plain, pointed, fraction, printed, sign, Decimal, millionths_of, Said}
+use Rattle.number.specs.Number.{count, says, minus, right, some, none, number_of, fixed, width, plain, pointed, fraction, printed, Decimal, millionths_of, Said}
 use Rattle.text.proofs.RunLaws.{run_nil, run_cons_on, run_all, run_at}
 use Rattle.number.proofs.DigitLaws.{digit_byte, value_snoc, length_fixed, width_is, pow_pos_of, whole_small, fraction_small}
 use Rattle.number.proofs.NumberLaws.{number_by, right_bounds}

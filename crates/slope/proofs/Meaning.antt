@@ -16,7 +16,6 @@ use Rattle.wire.proofs.Signed.{within_test}
 use Rattle.whole.proofs.Laws.{*ℤ_negℤ, negℤ_*ℤ}
 use Rattle.whole.proofs.Ring.{var, num, ◌:+◌, ◌:-◌, ◌:*◌, norm, same, solve}
 use Rattle.whole.proofs.Order.{<_by, ≤_yes, ≤_is, <_yes, <_no, ≤_trans, ≤_<_trans, <→≤, +ℤ_≤, pos_≥0, pos_>0, abs_of, abs_of_neg, *ℤ_≤, *ℤ_<, *ℤ_≤_cancel}
-use Rattle.triangle.specs.Triangle.{cross}
 use Rattle.triangle.proofs.Crosses.{cross_turn, share}
 use Rattle.triangle.proofs.Weights.{weights, has_area}
 use Rattle.triangle.proofs.Corners.{corner_a, corner_b, corner_c}

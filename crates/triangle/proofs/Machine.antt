@@ -2,7 +2,7 @@
 use mathlib.Core.Path.{◌≡◌, ◌∙◌}
 use lib.IntN.{ℤ}
 use Rattle.wire.specs.Signed.{Within}
-use Rattle.wire.proofs.Signed.{Reads, read, stored, read_within, within_fits, args6, sub_within, mul_within}
+use Rattle.wire.proofs.Signed.{Reads, read, read_within, within_fits, args6, sub_within, mul_within}
 use Rattle.triangle.specs.Triangle.{cross}
 
 module _ {a b d e p q : ℤ} (ha : Within 65536 a) (hb : Within 65536 b) (hd : Within 65536 d) (he : Within 65536 e) (hp : Within 65536 p) (hq : Within 65536 q) where

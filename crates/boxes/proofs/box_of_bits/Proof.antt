@@ -9,12 +9,12 @@ returns : tie.Need-returns
 unfolding box_of_bits
 returns c =
     rw (
-      c.float-of-bits6.ensures,
-      c.before.float-of-bits5.ensures,
-      c.before.before.float-of-bits4.ensures,
-      c.before.before.before.float-of-bits3.ensures,
-      c.before.before.before.before.float-of-bits2.ensures,
-      c.before.before.before.before.before.float-of-bits.ensures,
+      c.float_of_bits-greatest_z.ensures,
+      c.float_of_bits-greatest_y.ensures,
+      c.float_of_bits-greatest_x.ensures,
+      c.float_of_bits-least_z.ensures,
+      c.float_of_bits-least_y.ensures,
+      c.float_of_bits-least_x.ensures,
     ) refl
 
 pub box_of_bits_spec : {M : Type 1} → statement M

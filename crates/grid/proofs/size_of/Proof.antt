@@ -1,6 +1,5 @@
 -- `grid::size_of` meets its contract: each return is one range of the exponent's field (proofs/Patterns). Assumes nothing.
 use borrow.Author.Rules.{rules}
-use Prim.Native.Nat.{◌-◌}
 use mathlib.Core.Path.{sym}
 use Rattle.grid.proofs.Patterns.{zero_bits, low_bits, high_bits, unit_pos, mid_rest, mid_far, mid_on}
 use Rattle.grid.proofs.Answers.{size_on, size_off}

@@ -9,23 +9,23 @@ use Rattle.mesh.specs.Faces.{wrong_corners}
 use Rattle.mesh.proofs.first_cornered.Statement.{statement}
 use Rattle.mesh.proofs.first_cornered.Tie as tie
 
-abbrev invariant_loop : tie.invariant_loop
+abbrev invariant_loop : tie.invariant-loop-f
 invariant_loop bytes n f₀ f = lowest f (wrong_corners (parts_of bytes)) ≡ f
 
-abbrev decreases_loop : tie.decreases_loop
+abbrev decreases_loop : tie.decreases-loop-f
 decreases_loop bytes n f₀ f = n - f
 
-loop_holds : tie.Need-loop-init invariant_loop decreases_loop
+loop_holds : tie.Need-loop-f-init invariant_loop decreases_loop
 loop_holds c = lowest_none _
 
-returns : tie.Need-returns invariant_loop decreases_loop
-returns c = sym (lowest_hit _ _ _ c.before.before.before.loop.invariant (rw (← c.before.wrong-corners.ensures) c.if1.true) (search rules))
+returns : tie.Need-returns-then-wrong_corners invariant_loop decreases_loop
+returns c = sym (lowest_hit _ _ _ c.loop-f.invariant (rw (← c.wrong_corners.ensures) c.if-wrong_corners.true) (search rules))
 
-loop_again : tie.Need-loop-preserved invariant_loop decreases_loop
-loop_again c = lowest_more _ _ c.before.before.before.loop.invariant (rw (← c.before.wrong-corners.ensures) c.if1.false)
+loop_again : tie.Need-loop-f-preserved invariant_loop decreases_loop
+loop_again c = lowest_more _ _ c.loop-f.invariant (rw (← c.wrong_corners.ensures) c.if-wrong_corners.false)
 
-returns_2 : tie.Need-returns-2 invariant_loop decreases_loop
-returns_2 c = lowest_done _ _ _ c.before.loop.invariant (search rules)
+returns_2 : tie.Need-returns invariant_loop decreases_loop
+returns_2 c = lowest_done _ _ _ c.loop-f.invariant (search rules)
 
 pub first_cornered_spec : {M : Type 1} → statement M
 first_cornered_spec = tie.close (tie.spec invariant_loop decreases_loop loop_holds (search rules) returns (search rules) (search rules) loop_again returns_2)

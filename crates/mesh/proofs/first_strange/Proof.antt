@@ -9,23 +9,23 @@ use Rattle.mesh.specs.Faces.{strange}
 use Rattle.mesh.proofs.first_strange.Statement.{statement}
 use Rattle.mesh.proofs.first_strange.Tie as tie
 
-abbrev invariant_loop : tie.invariant_loop
+abbrev invariant_loop : tie.invariant-loop-f
 invariant_loop bytes n f₀ f = lowest f (strange (parts_of bytes)) ≡ f
 
-abbrev decreases_loop : tie.decreases_loop
+abbrev decreases_loop : tie.decreases-loop-f
 decreases_loop bytes n f₀ f = n - f
 
-loop_holds : tie.Need-loop-init invariant_loop decreases_loop
+loop_holds : tie.Need-loop-f-init invariant_loop decreases_loop
 loop_holds c = lowest_none _
 
-returns : tie.Need-returns invariant_loop decreases_loop
-returns c = sym (lowest_hit _ _ _ c.before.before.before.loop.invariant (rw (← c.before.is-strange.ensures) c.if1.true) (search rules))
+returns : tie.Need-returns-then-is_strange invariant_loop decreases_loop
+returns c = sym (lowest_hit _ _ _ c.loop-f.invariant (rw (← c.is_strange.ensures) c.if-is_strange.true) (search rules))
 
-loop_again : tie.Need-loop-preserved invariant_loop decreases_loop
-loop_again c = lowest_more _ _ c.before.before.before.loop.invariant (rw (← c.before.is-strange.ensures) c.if1.false)
+loop_again : tie.Need-loop-f-preserved invariant_loop decreases_loop
+loop_again c = lowest_more _ _ c.loop-f.invariant (rw (← c.is_strange.ensures) c.if-is_strange.false)
 
-returns_2 : tie.Need-returns-2 invariant_loop decreases_loop
-returns_2 c = lowest_done _ _ _ c.before.loop.invariant (search rules)
+returns_2 : tie.Need-returns invariant_loop decreases_loop
+returns_2 c = lowest_done _ _ _ c.loop-f.invariant (search rules)
 
 pub first_strange_spec : {M : Type 1} → statement M
 first_strange_spec = tie.close (tie.spec invariant_loop decreases_loop loop_holds (search rules) returns (search rules) (search rules) loop_again returns_2)

@@ -10,23 +10,23 @@ use Rattle.mesh.specs.Floats.{wild_head}
 use Rattle.mesh.proofs.first_wild_head.Statement.{statement}
 use Rattle.mesh.proofs.first_wild_head.Tie as tie
 
-abbrev invariant_loop : tie.invariant_loop
+abbrev invariant_loop : tie.invariant-loop-i
 invariant_loop bytes i₀ i = lowest i (wild_head (parts_of bytes)) ≡ i
 
-abbrev decreases_loop : tie.decreases_loop
+abbrev decreases_loop : tie.decreases-loop-i
 decreases_loop bytes i₀ i = 15 - i
 
-loop_holds : tie.Need-loop-init invariant_loop decreases_loop
+loop_holds : tie.Need-loop-i-init invariant_loop decreases_loop
 loop_holds c = lowest_none _
 
-returns : tie.Need-returns invariant_loop decreases_loop
-returns c = (sym (lowest_hit _ _ 15 c.before.before.before.loop.invariant (rw (← c.before.is-wild-head.ensures) c.if1.true) (search rules)), omega arith)
+returns : tie.Need-returns-then-is_wild_head invariant_loop decreases_loop
+returns c = (sym (lowest_hit _ _ 15 c.loop-i.invariant (rw (← c.is_wild_head.ensures) c.if-is_wild_head.true) (search rules)), omega arith)
 
-loop_again : tie.Need-loop-preserved invariant_loop decreases_loop
-loop_again c = lowest_more _ _ c.before.before.before.loop.invariant (rw (← c.before.is-wild-head.ensures) c.if1.false)
+loop_again : tie.Need-loop-i-preserved invariant_loop decreases_loop
+loop_again c = lowest_more _ _ c.loop-i.invariant (rw (← c.is_wild_head.ensures) c.if-is_wild_head.false)
 
-returns_2 : tie.Need-returns-2 invariant_loop decreases_loop
-returns_2 c = (lowest_done _ _ 15 c.before.loop.invariant (search rules), omega arith)
+returns_2 : tie.Need-returns invariant_loop decreases_loop
+returns_2 c = (lowest_done _ _ 15 c.loop-i.invariant (search rules), omega arith)
 
 pub first_wild_head_spec : {M : Type 1} → statement M
 first_wild_head_spec = tie.close (tie.spec invariant_loop decreases_loop loop_holds (search rules) returns (search rules) (search rules) loop_again returns_2)

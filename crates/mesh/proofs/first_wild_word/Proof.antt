@@ -8,27 +8,27 @@ use Rattle.mesh.specs.Floats.{wild, wild_from}
 use Rattle.mesh.proofs.first_wild_word.Statement.{statement}
 use Rattle.mesh.proofs.first_wild_word.Tie as tie
 
-abbrev invariant_loop : tie.invariant_loop
+abbrev invariant_loop : tie.invariant-loop-j
 invariant_loop bytes at n j₀ j = lowest j (wild_from bytes at) ≡ j
 
-abbrev decreases_loop : tie.decreases_loop
+abbrev decreases_loop : tie.decreases-loop-j
 decreases_loop bytes at n j₀ j = n - j
 
-loop_holds : tie.Need-loop-init invariant_loop decreases_loop
+loop_holds : tie.Need-loop-j-init invariant_loop decreases_loop
 loop_holds c = lowest_none _
 
-returns : tie.Need-returns invariant_loop decreases_loop
+returns : tie.Need-returns-then-is_wild invariant_loop decreases_loop
 unfolding wild_from
 returns c =
-    sym (lowest_hit _ _ _ c.before.before.before.before.loop.invariant (sym (c.before.is-wild.ensures ∙ ap wild c.before.before.u32-at.ensures) ∙ c.if1.true) (search rules))
+    sym (lowest_hit _ _ _ c.loop-j.invariant (sym (c.is_wild.ensures ∙ ap wild c.u32_at.ensures) ∙ c.if-is_wild.true) (search rules))
 
-loop_again : tie.Need-loop-preserved invariant_loop decreases_loop
+loop_again : tie.Need-loop-j-preserved invariant_loop decreases_loop
 unfolding wild_from
 loop_again c =
-    lowest_more _ _ c.before.before.before.before.loop.invariant (sym (c.before.is-wild.ensures ∙ ap wild c.before.before.u32-at.ensures) ∙ c.if1.false)
+    lowest_more _ _ c.loop-j.invariant (sym (c.is_wild.ensures ∙ ap wild c.u32_at.ensures) ∙ c.if-is_wild.false)
 
-returns_2 : tie.Need-returns-2 invariant_loop decreases_loop
-returns_2 c = lowest_done _ _ _ c.before.loop.invariant (search rules)
+returns_2 : tie.Need-returns invariant_loop decreases_loop
+returns_2 c = lowest_done _ _ _ c.loop-j.invariant (search rules)
 
 pub first_wild_word_spec : {M : Type 1} → statement M
 first_wild_word_spec = tie.close (tie.spec invariant_loop decreases_loop loop_holds (search rules) (search rules) (search rules) (search rules) returns (search rules) (search rules) loop_again returns_2)

@@ -14,9 +14,9 @@ returns c =
     let third = fourth.before in
     let second = third.before in
     let first = second.before in
-    let head = each_by 7 _ (λ (i : ℕ). 12 + 4 * i) refl first.before.first-wild-head.ensures.0 refl in
-    next {x = rule7_in _ _ 5 6} (next {x = rule7_in _ _ 4 1} (next {x = rule7_in _ _ 3 3} (next {x = rule7_in _ _ 0 3} (first.first-rule.ensures ∙ head)
-    refl second.then-wild.ensures) refl third.then-wild2.ensures) refl fourth.then-wild3.ensures) refl c.then-wild4.ensures
+    let head = each_by 7 _ (λ (i : ℕ). 12 + 4 * i) refl first.first_wild_head-i.ensures.0 refl in
+    next {x = rule7_in _ _ 5 6} (next {x = rule7_in _ _ 4 1} (next {x = rule7_in _ _ 3 3} (next {x = rule7_in _ _ 0 3} (first.first_rule-a.ensures ∙ head)
+    refl second.then_wild-b.ensures) refl third.then_wild-c.ensures) refl fourth.then_wild-d.ensures) refl c.then_wild.ensures
 
 pub floats_verdict_spec : {M : Type 1} → statement M
 floats_verdict_spec = tie.close (tie.spec (search rules) (search rules) (search rules) (search rules) (search rules) (search rules) (search rules) (search rules) (search rules) returns)

@@ -7,7 +7,7 @@ use Rattle.mesh.proofs.is_strange.Tie as tie
 
 returns : tie.Need-returns
 unfolding strange
-returns c = rw c.material-of.ensures refl
+returns c = rw c.material_of.ensures refl
 
 pub is_strange_spec : {M : Type 1} → statement M
 is_strange_spec = tie.close (tie.spec (search rules) returns)

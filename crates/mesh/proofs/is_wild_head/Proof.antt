@@ -6,7 +6,7 @@ use Rattle.mesh.proofs.is_wild_head.Tie as tie
 
 returns : tie.Need-returns
 unfolding wild_head
-returns c = rw (c.is-wild.ensures, c.before.float_word.ensures)
+returns c = rw (c.is_wild.ensures, c.float_word.ensures)
 
 pub is_wild_head_spec : {M : Type 1} → statement M
 is_wild_head_spec = tie.close (tie.spec (search rules) (search rules) returns)

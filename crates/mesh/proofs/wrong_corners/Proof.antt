@@ -9,25 +9,25 @@ use Rattle.mesh.specs.Faces.{wrong_corner, wrong_corners}
 use Rattle.mesh.proofs.wrong_corners.Statement.{statement}
 use Rattle.mesh.proofs.wrong_corners.Tie as tie
 
-abbrev invariant_loop : tie.invariant_loop
+abbrev invariant_loop : tie.invariant-loop-e
 invariant_loop bytes f e₀ e = lowest e (wrong_corner (parts_of bytes) f) ≡ e
 
-abbrev decreases_loop : tie.decreases_loop
+abbrev decreases_loop : tie.decreases-loop-e
 decreases_loop bytes f e₀ e = 3 - e
 
-loop_holds : tie.Need-loop-init invariant_loop decreases_loop
+loop_holds : tie.Need-loop-e-init invariant_loop decreases_loop
 loop_holds c = lowest_none _
 
-returns : tie.Need-returns invariant_loop decreases_loop
+returns : tie.Need-returns-then-wrong_corner invariant_loop decreases_loop
 unfolding wrong_corners
-returns c = any_hit _ _ 3 c.before.before.before.loop.invariant (rw (← c.before.wrong-corner.ensures) c.if1.true) (search rules)
+returns c = any_hit _ _ 3 c.loop-e.invariant (rw (← c.wrong_corner.ensures) c.if-wrong_corner.true) (search rules)
 
-loop_again : tie.Need-loop-preserved invariant_loop decreases_loop
-loop_again c = lowest_more _ _ c.before.before.before.loop.invariant (rw (← c.before.wrong-corner.ensures) c.if1.false)
+loop_again : tie.Need-loop-e-preserved invariant_loop decreases_loop
+loop_again c = lowest_more _ _ c.loop-e.invariant (rw (← c.wrong_corner.ensures) c.if-wrong_corner.false)
 
-returns_2 : tie.Need-returns-2 invariant_loop decreases_loop
+returns_2 : tie.Need-returns invariant_loop decreases_loop
 unfolding wrong_corners
-returns_2 c = any_none _ _ 3 c.before.loop.invariant (search rules)
+returns_2 c = any_none _ _ 3 c.loop-e.invariant (search rules)
 
 pub wrong_corners_spec : {M : Type 1} → statement M
 wrong_corners_spec = tie.close (tie.spec invariant_loop decreases_loop loop_holds (search rules) returns (search rules) (search rules) loop_again returns_2)

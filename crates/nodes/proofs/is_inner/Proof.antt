@@ -2,7 +2,7 @@
 use borrow.Author.Rules.{rules}
 use native.Mathlib.Omega.{arith}
 use mathlib.Core.Path.{◌≡◌, refl, sym, ap, ◌∙◌}
-use borrow.Author.Tests.{lt-ltb, le-ltb, eq-eqb, ne_eqb, not-true, not-false}
+use borrow.Author.Tests.{lt-ltb, le-ltb, eq-eqb, ne_eqb}
 use Rattle.verdict.proofs.Bools.{and_no}
 use Rattle.tables.specs.Parts.{none32, parts_of}
 use Rattle.nodes.specs.Nodes.{face_of, left_of, is_plane, is_inner}
@@ -21,7 +21,7 @@ returns_2 : tie.Need-returns-then-not-is_plane
 unfolding is_inner
 returns_2 c =
     let plane = ap is_plane (sym c.plane_of.ensures) ∙ sym c.is_plane.ensures in
-    simp (plane ∙ not-true _ c.if-not-is_plane.true, and_no)
+    simp (plane ∙ c.if-not-is_plane.true, and_no)
 
 returns_3 : tie.Need-returns-then-nodes-left_of
 unfolding is_inner
@@ -44,7 +44,7 @@ returns_4 c =
     let plane = ap is_plane (sym at-plane-of.plane_of.ensures) ∙ sym at-is-plane.is_plane.ensures in
     simp (
       eq-eqb (face_of p n) none32 (omega arith),
-      plane ∙ not-false _ at-if2.if-not-is_plane.false,
+      plane ∙ at-if2.if-not-is_plane.false,
       lt-ltb (left_of p n) p.nodes (omega arith),
       c.right_of.ensures,
       at-node-count.node_count-nodes.ensures.0,

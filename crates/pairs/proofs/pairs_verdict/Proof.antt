@@ -33,7 +33,7 @@ first_wrong_adjacent_requires c κs =
     let p = parts_of s.args.bytes.now in
     let all : found.first_repeat-twice.result ≡ halves p =
     omega (arith, lowest_within _ _ _ found.first_repeat-twice.ensures.0, found.halves_of-n.ensures) in
-    ((s.requires.0, apart past), (search rules, subst (λ (k : ℕ). Chained chains (chain p) found.first_repeat-twice.new.1.0 k) all found.first_repeat-twice.ensures.1.0))
+    ((s.requires.0, apart past), (search rules, subst (λ (k : ℕ). Chained chains (chain p) found.first_repeat-twice.new.work k) all found.first_repeat-twice.ensures.1.0))
 
 returns_2 : tie.Need-returns
 returns_2 c =

@@ -9,12 +9,12 @@ returns : tie.Need-returns
 unfolding record_at
 returns c =
     rw (
-      c.before.before.before.before.before.before.wide.ensures.0,
-      c.before.before.before.before.wide2.ensures.0,
-      c.before.before.before.bench-at.ensures,
-      c.before.before.u32-at.ensures,
-      c.before.u32-at2.ensures,
-      c.u32-at3.ensures,
+      c.wide.ensures.0,
+      c.wide-2.ensures.0,
+      c.bench_at.ensures,
+      c.u32_at.ensures,
+      c.u32_at-2.ensures,
+      c.u32_at-3.ensures,
     ) refl
 
 pub get_record_spec : {M : Type 1} → statement M

@@ -1,13 +1,12 @@
 -- The exact height's numerator and denominator, divided. Assumes nothing.
 use borrow.Author.Rules.{rules}
 use mathlib.Core.Path.{◌≡◌, sym, subst, ◌∙◌}
-use Prim.Native.Nat.{ℕ}
 use lib.IntN.{ℤ, pos}
 use lib.Signed.{◌<ℤ◌}
 use Rattle.wire.specs.Signed.{Within}
 use Rattle.wire.proofs.Signed.{read, read_is, read_within, within_more}
 use Rattle.whole.proofs.Order.{pos_>0}
-use Rattle.slope.specs.Height.{area, lifted, numerator, denominator, height_at}
+use Rattle.slope.specs.Height.{area, lifted, denominator}
 use Rattle.slope.proofs.Meaning.{some_denominator, height_small}
 use Rattle.slope.proofs.Machine.{area_made, lifted_made, numerator_made, denominator_made, height_made}
 use Rattle.slope.proofs.height_of.Statement.{statement}
