@@ -64,8 +64,8 @@ def turned(text, was, of, said):
         old_needs = None
     of_old = re.sub(r"(?<![^\s(])(tie|[\w-]+-lts)\s?\." + WORD, "", "\n".join(code(was)))
     of_now = re.sub(r"(?<![^\s(])(tie|[\w-]+-lts)\s?\." + WORD, "", "\n".join(code(text)))
-    old_fields = [m.group(1) for m in OLD_FIELD.finditer(of_old)]
-    now_fields = [m.group(1) for m in OLD_FIELD.finditer(of_now)]
+    old_fields = [m.group(1) for m in OLD_FIELD.finditer(of_old) if m.group(1) != "now"]
+    now_fields = [m.group(1) for m in OLD_FIELD.finditer(of_now) if m.group(1) != "now"]
     if len(old_fields) != len(now_fields):
         said.append(f"fields: {len(old_fields)} before, {len(now_fields)} now")
         old_fields = None
@@ -96,7 +96,7 @@ def turned(text, was, of, said):
         parts, out, at_place = m.group(2).split(".")[1:], [], True
         for name in parts:
             key = plain(re.sub("_lem$", "", name))
-            if old_fields:
+            if old_fields and name != "now":
                 key = plain(old_fields[counts["field"]])
                 counts["field"] += 1
             if at_place and key in steps:

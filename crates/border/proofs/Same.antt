@@ -1,6 +1,6 @@
 -- Two floors with the same half-edges, adjacency, edges and perimeters, whatever else differs: all that rules 15 to 19 say of one but 18 they say
 -- of the other. Assumes nothing.
-use Prim.Native.Nat.{ℕ, zero, suc, ◌+◌, ◌<◌}
+use Prim.Native.Nat.{ℕ, zero, suc, ◌+◌}
 use native.Mathlib.Omega.{arith}
 use mathlib.Core.Path.{◌≡◌, refl, sym, ap, subst, ◌∙◌}
 use Rattle.tables.specs.Parts.{Parts, adjacent_to, edge_of, loop_end}

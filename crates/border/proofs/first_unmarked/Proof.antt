@@ -9,23 +9,23 @@ use Rattle.tables.specs.Parts.{parts_of}
 use Rattle.border.proofs.first_unmarked.Statement.{statement}
 use Rattle.border.proofs.first_unmarked.Tie as tie
 
-abbrev invariant_loop : tie.invariant_loop
+abbrev invariant_loop : tie.invariant-loop-h
 invariant_loop bytes work n h₀ h = lowest h (unmarked (parts_of bytes) work) ≡ h
 
-abbrev decreases_loop : tie.decreases_loop
+abbrev decreases_loop : tie.decreases-loop-h
 decreases_loop bytes work n h₀ h = n - h
 
-loop_holds : tie.Need-loop-init invariant_loop decreases_loop
+loop_holds : tie.Need-loop-h-init invariant_loop decreases_loop
 loop_holds c = lowest_none _
 
-returns : tie.Need-returns invariant_loop decreases_loop
-returns c = sym (lowest_hit _ _ _ c.before.before.before.loop.invariant (rw (← c.before.is-unmarked.ensures) c.if1.true) (search rules))
+returns : tie.Need-returns-then-is_unmarked invariant_loop decreases_loop
+returns c = sym (lowest_hit _ _ _ c.loop-h.invariant (rw (← c.is_unmarked.ensures) c.if-is_unmarked.true) (search rules))
 
-loop_again : tie.Need-loop-preserved invariant_loop decreases_loop
-loop_again c = lowest_more _ _ c.before.before.before.loop.invariant (rw (← c.before.is-unmarked.ensures) c.if1.false)
+loop_again : tie.Need-loop-h-preserved invariant_loop decreases_loop
+loop_again c = lowest_more _ _ c.loop-h.invariant (rw (← c.is_unmarked.ensures) c.if-is_unmarked.false)
 
-returns_2 : tie.Need-returns-2 invariant_loop decreases_loop
-returns_2 c = c.before.before.halves_of.ensures.0 ∙ lowest_done _ _ _ c.before.loop.invariant (search rules)
+returns_2 : tie.Need-returns invariant_loop decreases_loop
+returns_2 c = c.halves_of-n.ensures.0 ∙ lowest_done _ _ _ c.loop-h.invariant (search rules)
 
 pub first_unmarked_spec : {M : Type 1} → statement M
 first_unmarked_spec = tie.close (tie.spec invariant_loop decreases_loop (search rules) loop_holds (λ c κs. search rules) returns (search rules) (search rules) loop_again returns_2)

@@ -9,23 +9,23 @@ use Rattle.tables.specs.Parts.{parts_of}
 use Rattle.border.proofs.first_wrong_transition.Statement.{statement}
 use Rattle.border.proofs.first_wrong_transition.Tie as tie
 
-abbrev invariant_loop : tie.invariant_loop
+abbrev invariant_loop : tie.invariant-loop-i
 invariant_loop bytes count i₀ i = lowest i (wrong_transition (parts_of bytes)) ≡ i
 
-abbrev decreases_loop : tie.decreases_loop
+abbrev decreases_loop : tie.decreases-loop-i
 decreases_loop bytes count i₀ i = count - i
 
-loop_holds : tie.Need-loop-init invariant_loop decreases_loop
+loop_holds : tie.Need-loop-i-init invariant_loop decreases_loop
 loop_holds c = lowest_none _
 
-returns : tie.Need-returns invariant_loop decreases_loop
-returns c = sym (lowest_hit _ _ _ c.before.before.before.loop.invariant (rw (← c.before.wrong-transition.ensures) c.if1.true) (search rules))
+returns : tie.Need-returns-then-wrong_transition invariant_loop decreases_loop
+returns c = sym (lowest_hit _ _ _ c.loop-i.invariant (rw (← c.wrong_transition.ensures) c.if-wrong_transition.true) (search rules))
 
-loop_again : tie.Need-loop-preserved invariant_loop decreases_loop
-loop_again c = lowest_more _ _ c.before.before.before.loop.invariant (rw (← c.before.wrong-transition.ensures) c.if1.false)
+loop_again : tie.Need-loop-i-preserved invariant_loop decreases_loop
+loop_again c = lowest_more _ _ c.loop-i.invariant (rw (← c.wrong_transition.ensures) c.if-wrong_transition.false)
 
-returns_2 : tie.Need-returns-2 invariant_loop decreases_loop
-returns_2 c = c.before.before.edges_of.ensures.0 ∙ lowest_done _ _ _ c.before.loop.invariant (search rules)
+returns_2 : tie.Need-returns invariant_loop decreases_loop
+returns_2 c = c.edges_of-count.ensures.0 ∙ lowest_done _ _ _ c.loop-i.invariant (search rules)
 
 pub first_wrong_transition_spec : {M : Type 1} → statement M
 first_wrong_transition_spec = tie.close (tie.spec invariant_loop decreases_loop (search rules) loop_holds (λ c κs. search rules) returns (search rules) (search rules) loop_again returns_2)

@@ -5,25 +5,25 @@ use Rattle.border.specs.Loops.{open_at}
 use Rattle.border.proofs.open_at.Statement.{statement}
 use Rattle.border.proofs.open_at.Tie as tie
 
-to_of_requires : tie.Need-to-of-requires
+to_of_requires : tie.Need-to_of-end-requires
 to_of_requires c κs =
     let s = c.before.before.before.before in
-    (s.requires.0.0, rw c.before.Edge-of.ensures (s.requires.0.1.below _ (omega arith)))
+    (s.requires.0.0, rw c.edge_of-h.ensures (s.requires.0.1.below _ (omega arith)))
 
-from_of_requires : tie.Need-from-of-requires
+from_of_requires : tie.Need-from_of-start-requires
 from_of_requires c κs =
     let s = c.before.before.before.before.before in
-    (s.requires.0.0, rw c.before.edge-of2.ensures (s.requires.0.1.below _ (omega arith)))
+    (s.requires.0.0, rw c.edge_of-g.ensures (s.requires.0.1.below _ (omega arith)))
 
 returns : tie.Need-returns
 unfolding open_at
 returns c =
     rw (
-      ← c.before.before.before.before.after-of.ensures.0,
-      ← c.before.before.before.Edge-of.ensures,
-      ← c.before.before.edge-of2.ensures,
-      ← c.before.to-of.ensures.0,
-      ← c.from-of.ensures.0,
+      ← c.after_of-next.ensures.0,
+      ← c.edge_of-h.ensures,
+      ← c.edge_of-g.ensures,
+      ← c.to_of-end.ensures.0,
+      ← c.from_of-start.ensures.0,
     )
 
 pub open_at_spec : {M : Type 1} → statement M

@@ -8,18 +8,18 @@ use Rattle.border.specs.Memory.{wrong_by}
 use Rattle.border.proofs.wrong_by.Statement.{statement}
 use Rattle.border.proofs.wrong_by.Tie as tie
 
-shared_slice_read_result : tie.Need-shared-slice-read-result
+shared_slice_read_result : tie.Need-bounds-work-h
 shared_slice_read_result c =
     let s = c.before.before.before.before.before.before in
-    omega (arith, border_in _ _ (sym c.before.before.is-border.ensures ∙ c.before.if1.true), few_walkable s.args.bytes.now s.requires.0.0)
+    omega (arith, border_in _ _ (sym c.is_border.ensures ∙ c.if-is_border.true), few_walkable s.args.bytes.now s.requires.0.0)
 
-returns : tie.Need-returns
+returns : tie.Need-returns-then-is_border
 unfolding wrong_by is_marked
-returns c = rw (← c.before.before.before.Edge-of.ensures, ← c.before.before.is-border.ensures, c.before.if1.true)
+returns c = rw (← c.edge_of-h.ensures, ← c.is_border.ensures, c.if-is_border.true)
 
-returns_2 : tie.Need-returns-2
+returns_2 : tie.Need-returns
 unfolding wrong_by
-returns_2 c = rw (← c.before.before.Edge-of.ensures, ← c.before.is-border.ensures, c.if1.false)
+returns_2 c = rw (← c.edge_of-h.ensures, ← c.is_border.ensures, c.if-is_border.false)
 
 pub wrong_by_spec : {M : Type 1} → statement M
 wrong_by_spec = tie.close (tie.spec (search rules) (search rules) shared_slice_read_result returns returns_2)

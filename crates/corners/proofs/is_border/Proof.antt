@@ -19,8 +19,8 @@ returns c =
     let s = c.before.before.before in
     let b = s.args.bytes.now in
     let p = parts_of b in
-    ap (λ (x : ℕ). leb loose x) c.u16-at.ensures.0
+    ap (λ (x : ℕ). leb loose x) c.u16_at.ensures.0
     ∙ border_told (recornered p) s.args.work.now (unfold recornered relinked in few_walkable b s.requires.0.0) s.requires.1.1 s.args.h (unfold recornered relinked in s.requires.0.1)
 
 pub is_border_spec : {M : Type 1} → statement M
-is_border_spec = tie.close (tie.spec (λ c. omega (arith, few c.before.before)) (λ c. omega (arith, few c.before.before)) (λ c κs. omega (arith, few c.before.before, c.before.before.requires.1.0)) returns)
+is_border_spec = tie.close (tie.spec (λ c. omega (arith, few c.before.before)) (λ c. omega (arith, few c.before.before)) (λ c κs. omega (arith, few c.before.before, c.requires.1.0)) returns)

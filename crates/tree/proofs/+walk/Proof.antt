@@ -4,7 +4,6 @@ use native.Mathlib.Omega.{arith}
 use mathlib.Core.Path.{◌≡◌, sym, ◌∙◌}
 use mathlib.Core.Bool.{true}
 use lib.ListN.{length, get_or, length-set}
-use borrow.Author.Tests.{not-true, not-false}
 use borrow.Fn.Kinds.{In}
 use borrow.Fn.PlainCycle.{Measures, is, falls, and}
 use Rattle.tables.specs.Parts.{parts_of}
@@ -46,47 +45,47 @@ abbrev tree : {t : ℕ} → walk-lts.Start (G t) (walk_at t) walk.Post → Nodes
 tree s = nodes_of (parts_of s.args.bytes.now)
 
 -- past the first test the node is not marked yet
-unmarked : (t : ℕ) (c : walk-lts.Else1 (G t) (walk_at t) walk.Post) → get_or c.before.before.before.before.args.work.now c.before.before.before.before.args.n 0 ≡ 0
+unmarked : (t : ℕ) (c : walk-lts.Else-work-n-ne0 (G t) (walk_at t) walk.Post) → get_or c.args.work.now c.args.n 0 ≡ 0
 unmarked t c = omega arith
 
 -- past the second test it is inner
-inner_at : (t : ℕ) (c : walk-lts.Else2 (G t) (walk_at t) walk.Post) → (tree c.before.before.before.before.before.before).inner c.before.before.before.before.before.before.args.n ≡ true
-inner_at t c = sym c.before.is-inner-node.ensures ∙ not-false _ c.if2.false
+inner_at : (t : ℕ) (c : walk-lts.Else-not-is_inner_node (G t) (walk_at t) walk.Post) → (tree c.before.before.before.before.before.before).inner c.args.n ≡ true
+inner_at t c = sym c.is_inner_node.ensures ∙ c.if-not-is_inner_node.false
 
-walk_slice_read_if1 : (t : ℕ) → walk-lts.Need-slice-read-if1 (G t) (walk_at t) walk.Post
+walk_slice_read_if1 : (t : ℕ) → walk-lts.Need-bounds-work-n (G t) (walk_at t) walk.Post
 walk_slice_read_if1 t c = omega arith
 
-walk_returns : (t : ℕ) → walk-lts.Need-returns (G t) (walk_at t) walk.Post
+walk_returns : (t : ℕ) → walk-lts.Need-returns-then-work-n-ne0 (G t) (walk_at t) walk.Post
 walk_returns t c =
     let s = c.before.before.before.before in
-    hit (tree s) s.args.depth s.args.n (now s.args.work) (λ (z : get_or (now s.args.work) s.args.n 0 ≡ 0). omega arith)
+    hit (tree s) s.args.depth s.args.n s.args.work.now (λ (z : get_or s.args.work.now s.args.n 0 ≡ 0). omega arith)
 
-walk_slice_write_work : (t : ℕ) → walk-lts.Need-slice-write-work (G t) (walk_at t) walk.Post
+walk_slice_write_work : (t : ℕ) → walk-lts.Need-bounds-work-n-2 (G t) (walk_at t) walk.Post
 walk_slice_write_work t c = omega arith
 
-walk_is_inner_node_requires : (t : ℕ) → walk-lts.Need-is-inner-node-requires (G t) (walk_at t) walk.Post
+walk_is_inner_node_requires : (t : ℕ) → walk-lts.Need-is_inner_node-requires (G t) (walk_at t) walk.Post
 walk_is_inner_node_requires t c κs = let s = c.before.before.before.before in (s.requires.1.0.0, s.requires.1.1.0)
 
-walk_same_length : (t : ℕ) → walk-lts.Need-same-length (G t) (walk_at t) walk.Post
+walk_same_length : (t : ℕ) → walk-lts.Need-shape_of-work-then-not-is_inner_node (G t) (walk_at t) walk.Post
 walk_same_length t c = simp length-set
 
-walk_returns_2 : (t : ℕ) → walk-lts.Need-returns-2 (G t) (walk_at t) walk.Post
+walk_returns_2 : (t : ℕ) → walk-lts.Need-returns-then-not-is_inner_node (G t) (walk_at t) walk.Post
 walk_returns_2 t c =
     let s = c.before.before.before.before.before.before in
-    leaf (tree s) s.args.depth s.args.n s.args.work.now (unmarked t c.before.before) (sym c.before.is-inner-node.ensures ∙ not-true _ c.if2.true)
+    leaf (tree s) s.args.depth s.args.n s.args.work.now (unmarked t c.before.before) (sym c.is_inner_node.ensures ∙ c.if-not-is_inner_node.true)
 
-walk_same_length_2 : (t : ℕ) → walk-lts.Need-same-length-2 (G t) (walk_at t) walk.Post
+walk_same_length_2 : (t : ℕ) → walk-lts.Need-shape_of-work-then-depth-eq0 (G t) (walk_at t) walk.Post
 walk_same_length_2 t c = simp length-set
 
-walk_returns_3 : (t : ℕ) → walk-lts.Need-returns-3 (G t) (walk_at t) walk.Post
+walk_returns_3 : (t : ℕ) → walk-lts.Need-returns-then-depth-eq0 (G t) (walk_at t) walk.Post
 walk_returns_3 t c =
     let s = c.before.before.before.before.before.before.before in
-    last (tree s) s.args.depth s.args.n s.args.work.now (unmarked t c.before.before.before) (omega arith) (inner_at t c.before) c.if3.true
+    last (tree s) s.args.depth s.args.n s.args.work.now (unmarked t c.before.before.before) (omega arith) (inner_at t c.before) c.if-depth-eq0.true
 
-walk_left_of_requires : (t : ℕ) → walk-lts.Need-left-of-requires (G t) (walk_at t) walk.Post
+walk_left_of_requires : (t : ℕ) → walk-lts.Need-left_of-l-requires (G t) (walk_at t) walk.Post
 walk_left_of_requires t c κs = let s = c.before.before.before.before.before.before.before in (s.requires.1.0.0, s.requires.1.1.0)
 
-walk_sub_walk : (t : ℕ) → walk-lts.Need-overflow-sub-walk (G t) (walk_at t) walk.Post
+walk_sub_walk : (t : ℕ) → walk-lts.Need-overflow_sub-depth (G t) (walk_at t) walk.Post
 walk_sub_walk t c = omega arith
 
 walk_walk_requires : (t : ℕ) → walk-lts.Need-walk-requires (G t) (walk_at t) walk.Post
@@ -94,25 +93,25 @@ unfolding nodes_of
 walk_walk_requires t c κs =
     let s = c.before.before.before.before.before.before.before.before.before in
     let under = s.requires.1.0.1.left s.args.n s.requires.1.1.0 (inner_at t c.before.before.before) in
-    (omega arith, (s.requires.1.0, (rw c.before.left-of.ensures under, simp length-set s.requires.1.1.1)))
+    (omega arith, (s.requires.1.0, (rw c.left_of-l.ensures under, simp length-set s.requires.1.1.1)))
 
-walk_same_length_3 : (t : ℕ) → walk-lts.Need-same-length-3 (G t) (walk_at t) walk.Post
-walk_same_length_3 t c = c.before.before.before.walk.auto.1.0 ∙ simp length-set
+walk_same_length_3 : (t : ℕ) → walk-lts.Need-shape_of-work-then-not-walk (G t) (walk_at t) walk.Post
+walk_same_length_3 t c = c.walk.auto.work ∙ simp length-set
 
-walk_returns_4 : (t : ℕ) → walk-lts.Need-returns-4 (G t) (walk_at t) walk.Post
+walk_returns_4 : (t : ℕ) → walk-lts.Need-returns-then-not-walk (G t) (walk_at t) walk.Post
 unfolding nodes_of
 walk_returns_4 t c =
     let d = c.before.before.before.before.before.before in
     let s = d.before.before.before.before.before.before.before in
-    let w = c.before.before.before.walk in
-    let l = c.before.before.before.before.before.left-of in
-    stop (tree s) s.args.depth s.args.n s.args.work.now (unmarked t d.before.before.before) (inner_at t d.before) d.if3.false
-    l.result l.ensures w.new.1.0 w.ensures.1 (sym (not-true _ c.if4.true) ∙ w.ensures.0)
+    let w = c.walk in
+    let l = c.left_of-l in
+    stop (tree s) s.args.depth s.args.n s.args.work.now (unmarked t d.before.before.before) (inner_at t d.before) d.if-depth-eq0.false
+    l.result l.ensures w.new.work w.ensures.1 (sym (c.if-not-walk.true) ∙ w.ensures.0)
 
-walk_right_of_requires : (t : ℕ) → walk-lts.Need-right-of-requires (G t) (walk_at t) walk.Post
+walk_right_of_requires : (t : ℕ) → walk-lts.Need-right_of-r-requires (G t) (walk_at t) walk.Post
 walk_right_of_requires t c κs = let s = c.before.before.before.before.before.before.before.before.before.before.before.before.before in (s.requires.1.0.0, s.requires.1.1.0)
 
-walk_sub_walk_2 : (t : ℕ) → walk-lts.Need-overflow-sub-walk-2 (G t) (walk_at t) walk.Post
+walk_sub_walk_2 : (t : ℕ) → walk-lts.Need-overflow_sub-depth-2 (G t) (walk_at t) walk.Post
 walk_sub_walk_2 t c = omega arith
 
 walk_walk_requires_2 : (t : ℕ) → walk-lts.Need-walk-requires-2 (G t) (walk_at t) walk.Post
@@ -120,26 +119,26 @@ unfolding nodes_of
 walk_walk_requires_2 t c κs =
     let d = c.before.before.before.before.before.before.before.before in
     let s = d.before.before.before.before.before.before.before in
-    let w = c.before.before.before.before.before.walk in
+    let w = c.walk in
     let under = s.requires.1.0.1.right s.args.n s.requires.1.1.0 (inner_at t d.before) in
-    let long : length w.new.1.0 ≡ length s.args.work.now = w.auto.1.0 ∙ simp length-set in
-    (omega arith, (s.requires.1.0, (rw c.before.right_of.ensures under, omega (arith, s.requires.1.1))))
+    let long : length w.new.work ≡ length s.args.work.now = w.auto.work ∙ simp length-set in
+    (omega arith, (s.requires.1.0, (rw c.right_of-r.ensures under, omega (arith, s.requires.1.1))))
 
-walk_same_length_4 : (t : ℕ) → walk-lts.Need-same-length-4 (G t) (walk_at t) walk.Post
-walk_same_length_4 t c = c.before.before.walk2.auto.1.0 ∙ (c.before.before.before.before.before.before.before.before.walk.auto.1.0 ∙ simp length-set)
+walk_same_length_4 : (t : ℕ) → walk-lts.Need-shape_of-work (G t) (walk_at t) walk.Post
+walk_same_length_4 t c = c.walk-2.auto.work ∙ (c.walk.auto.work ∙ simp length-set)
 
-walk_returns_5 : (t : ℕ) → walk-lts.Need-returns-5 (G t) (walk_at t) walk.Post
+walk_returns_5 : (t : ℕ) → walk-lts.Need-returns (G t) (walk_at t) walk.Post
 unfolding nodes_of
 walk_returns_5 t c =
     let d = c.before.before.before.before.before.before.before.before.before.before.before in
     let s = d.before.before.before.before.before.before.before in
-    let w = c.before.before.before.before.before.before.before.before.walk in
-    let v = c.before.before.walk2 in
-    let l = c.before.before.before.before.before.before.before.before.before.before.left-of in
-    let r = c.before.before.before.before.right_of in
-    go (tree s) s.args.depth s.args.n s.args.work.now (unmarked t d.before.before.before) (inner_at t d.before) d.if3.false
-    l.result l.ensures w.new.1.0 w.ensures.1 (sym (not-false _ c.before.before.before.before.before.if4.false) ∙ w.ensures.0)
-    r.result r.ensures v.result v.new.1.0 v.ensures.0 v.ensures.1
+    let w = c.walk in
+    let v = c.walk-2 in
+    let l = c.left_of-l in
+    let r = c.right_of-r in
+    go (tree s) s.args.depth s.args.n s.args.work.now (unmarked t d.before.before.before) (inner_at t d.before) d.if-depth-eq0.false
+    l.result l.ensures w.new.work w.ensures.1 (sym (c.if-not-walk.false) ∙ w.ensures.0)
+    r.result r.ensures v.result v.new.work v.ensures.0 v.ensures.1
 
 pub +walk_spec : {M : Type 1} → statement M
 +walk_spec = close μ_walk λ t. walk-lts.spec (G t)

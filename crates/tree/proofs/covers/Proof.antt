@@ -15,47 +15,47 @@ use Rattle.tree.proofs.covers.Statement.{statement}
 use Rattle.tree.proofs.covers.Tie as tie
 
 -- seen from the last step: the marking, the start, the floor's parts and what is marked
-abbrev at_mark_faces : tie.After-all-marked → tie.After-mark-faces
-at_mark_faces c = c.before.before.before.before
+abbrev at_mark_faces : tie.After-all_marked-full → tie.After-mark_faces-apart
+at_mark_faces c = c.before.before.before
 
-abbrev start : tie.After-all-marked → tie.Start
+abbrev start : tie.After-all_marked-full → tie.Start
 start c = (at_mark_faces c).before.before.before.before.before.before.before.before.before
 
-abbrev parts : tie.After-all-marked → Parts
+abbrev parts : tie.After-all_marked-full → Parts
 parts c = parts_of (start c).args.bytes.now
 
-abbrev list : tie.After-all-marked → List ℕ
+abbrev list : tie.After-all_marked-full → List ℕ
 list c = leaf_faces (nodes_of (parts c)) (face_of (parts c)) (parts c).nodes
 
-inside : (c : tie.After-all-marked) → NoneFrom (parts c).faces (list c)
+inside : (c : tie.After-all_marked-full) → NoneFrom (parts c).faces (list c)
 inside c = leaves_within (parts c) (start c).requires.0.1
 
-half : (c : tie.After-all-marked)
-    → Half (list c) (parts c).faces (start c).args.work.now (at_mark_faces c).mark-faces.new.1.0 (at_mark_faces c).mark-faces.result c.all-marked.result
+half : (c : tie.After-all_marked-full)
+    → Half (list c) (parts c).faces (start c).args.work.now (at_mark_faces c).mark_faces-apart.new.work (at_mark_faces c).mark_faces-apart.result c.all_marked-full.result
 half c =
-    let mark = (at_mark_faces c).mark-faces in
+    let mark = (at_mark_faces c).mark_faces-apart in
     let at_clear = (at_mark_faces c).before.before.before.before in
-    let clear = at_clear.clear-to in
-    let count = at_clear.before.before.face-count.ensures in
+    let clear = at_clear.clear_to in
+    let count = at_clear.face_count-faces.ensures in
     record {
-      w₁ = clear.last.0;
+      w₁ = clear.new.work;
       few = omega (arith, count);
       room = (start c).requires.1;
       cleared = clear.ensures ∙ ap (λ (n : ℕ). cleared_to n (start c).args.work.now) count.0;
       walked = mark.ensures.0;
       marks = mark.ensures.1;
-      full = c.all-marked.ensures ∙ ap (λ (n : ℕ). all_under n (is_marked mark.last.1.0)) count.0;
+      full = c.all_marked-full.ensures ∙ ap (λ (n : ℕ). all_under n (is_marked mark.new.work)) count.0;
     }
 
-returns : tie.Need-returns
+returns : tie.Need-returns-then-apart
 returns c =
     let d = c.before in
-    (both_first _ _ c.if1.true ∙ half_once _ _ _ _ _ _ (inside d) (half d), half_memory _ _ _ _ _ _ (inside d) (half d))
+    (both_first _ _ c.if-apart.true ∙ half_once _ _ _ _ _ _ (inside d) (half d), half_memory _ _ _ _ _ _ (inside d) (half d))
 
-returns_2 : tie.Need-returns-2
+returns_2 : tie.Need-returns-else-apart
 returns_2 c =
     let d = c.before in
-    (both_none _ d.all-marked.result c.if1.false ∙ half_once _ _ _ _ _ _ (inside d) (half d), half_memory _ _ _ _ _ _ (inside d) (half d))
+    (both_none _ d.all_marked-full.result c.if-apart.false ∙ half_once _ _ _ _ _ _ (inside d) (half d), half_memory _ _ _ _ _ _ (inside d) (half d))
 
 pub covers_spec : {M : Type 1} → statement M
 covers_spec =

@@ -5,28 +5,28 @@ use Rattle.tree.proofs.Held.{vertex_finite}
 use Rattle.tree.proofs.holds_vertex.Statement.{statement}
 use Rattle.tree.proofs.holds_vertex.Tie as tie
 
-x_finite : tie.Need-float-of-bits-requires
+x_finite : tie.Need-float_of_bits-x-requires
 x_finite c κs =
-    let s = c.before.before in vertex_finite _ _ 0 _ s.requires.0 s.requires.1.1 (omega arith) c.word_of_lem.ensures
+    let s = c.before.before in vertex_finite _ _ 0 _ s.requires.0 s.requires.1.1 (omega arith) c.word_of.ensures
 
-y_finite : tie.Need-float-of-bits-requires-2
+y_finite : tie.Need-float_of_bits-y-requires
 y_finite c κs =
-    let s = c.before.before.before.before in vertex_finite _ _ 1 _ s.requires.0 s.requires.1.1 (omega arith) c.word-of2.ensures
+    let s = c.before.before.before.before in vertex_finite _ _ 1 _ s.requires.0 s.requires.1.1 (omega arith) c.word_of-2.ensures
 
-z_finite : tie.Need-float-of-bits-requires-3
+z_finite : tie.Need-float_of_bits-z-requires
 z_finite c κs =
-    let s = c.before.before.before.before.before.before in vertex_finite _ _ 2 _ s.requires.0 s.requires.1.1 (omega arith) c.word-of3.ensures
+    let s = c.before.before.before.before.before.before in vertex_finite _ _ 2 _ s.requires.0 s.requires.1.1 (omega arith) c.word_of-3.ensures
 
 returns : tie.Need-returns
 returns c =
     rw (
-      c.holds-point.ensures,
-      c.before.before.before.before.before.float-of-bits.ensures,
-      c.before.before.before.before.before.before.word_of_lem.ensures,
-      c.before.before.before.float-of-bits2.ensures,
-      c.before.before.before.before.word-of2.ensures,
-      c.before.float-of-bits3.ensures,
-      c.before.before.word-of3.ensures,
+      c.holds_point.ensures,
+      c.float_of_bits-x.ensures,
+      c.word_of.ensures,
+      c.float_of_bits-y.ensures,
+      c.word_of-2.ensures,
+      c.float_of_bits-z.ensures,
+      c.word_of-3.ensures,
     )
 
 pub holds_vertex_spec : {M : Type 1} → statement M

@@ -8,27 +8,27 @@ use Rattle.tree.proofs.Held.{small_inner, small_leaf}
 use Rattle.tree.proofs.too_small.Statement.{statement}
 use Rattle.tree.proofs.too_small.Tie as tie
 
-inner : (c : tie.Then1) → (nodes_of (parts_of c.before.before.before.args.bytes.now)).inner c.before.before.before.args.n ≡ true
-inner c = sym c.before.is-inner-node.ensures ∙ c.if1.true
+inner : (c : tie.Then-is_inner_node) → (nodes_of (parts_of c.args.bytes.now)).inner c.args.n ≡ true
+inner c = sym c.is_inner_node.ensures ∙ c.if-is_inner_node.true
 
-leaf : (c : tie.Else1) → (nodes_of (parts_of c.before.before.before.args.bytes.now)).inner c.before.before.before.args.n ≡ false
-leaf c = sym c.before.is-inner-node.ensures ∙ c.if1.false
+leaf : (c : tie.Else-is_inner_node) → (nodes_of (parts_of c.args.bytes.now)).inner c.args.n ≡ false
+leaf c = sym c.is_inner_node.ensures ∙ c.if-is_inner_node.false
 
-holds_children_requires : tie.Need-holds-children-requires
+holds_children_requires : tie.Need-holds_children-requires
 holds_children_requires c κs =
-    let s = c.before.before.before.requires in
+    let s = c.requires in
     (s.0.0, (s.1.0, s.1.1, s.0.2.left _ s.1.1 (inner c), s.0.2.right _ s.1.1 (inner c)))
 
-returns : tie.Need-returns
-returns c = small_inner _ _ _ (inner c.before) c.holds-children.ensures
+returns : tie.Need-returns-then-is_inner_node
+returns c = small_inner _ _ _ (inner c.before) c.holds_children.ensures
 
-holds_face_requires : tie.Need-holds-face-requires
+holds_face_requires : tie.Need-holds_face-requires
 holds_face_requires c κs =
-    let s = c.before.before.before.before.requires in
-    ((s.0.0, s.0.1), (s.1.0, s.1.1, rw c.face-of.ensures (s.0.2.face _ s.1.1 (leaf c.before)), c.face-of.ensures))
+    let s = c.requires in
+    ((s.0.0, s.0.1), (s.1.0, s.1.1, rw c.face_of.ensures (s.0.2.face _ s.1.1 (leaf c.before)), c.face_of.ensures))
 
-returns_2 : tie.Need-returns-2
-returns_2 c = small_leaf _ _ _ (leaf c.before.before) c.holds-face.ensures
+returns_2 : tie.Need-returns
+returns_2 c = small_leaf _ _ _ (leaf c.before.before) c.holds_face.ensures
 
 pub too_small_spec : {M : Type 1} → statement M
 too_small_spec = tie.close (tie.spec (search rules) holds_children_requires returns (search rules) holds_face_requires returns_2)

@@ -9,8 +9,8 @@ use Rattle.tree.proofs.tree_verdict.Tie as tie
 returns : tie.Need-returns
 unfolding rules13to14 rule13 rule14 rule_of_each
 returns c =
-    let whole = c.before.before.before.before.before.before.one-tree.ensures in (
-      rw (c.then_rule.ensures, c.before.before.before.first-rule.ensures, whole.0, c.before.before.first_small.ensures.0, c.before.node-count.ensures.0),
+    let whole = c.one_tree-whole.ensures in (
+      rw (c.then_rule.ensures, c.first_rule-a.ensures, whole.0, c.first_small-n.ensures.0, c.node_count.ensures.0),
       whole.1,
     )
 

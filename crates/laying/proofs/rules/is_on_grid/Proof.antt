@@ -8,7 +8,7 @@ use Rattle.laying.proofs.rules.is_on_grid.Tie as tie
 
 returns : tie.Need-returns
 unfolding size_at
-returns c = ap (λ (z : Size64). z.on) c.type_size.ensures
+returns c = ap (λ (z : Size64). z.on) c.size_of-z.ensures
 
 pub is_on_grid_spec : {M : Type 1} → statement M
 is_on_grid_spec = tie.close (tie.spec (search rules) returns)

@@ -6,14 +6,14 @@ use Rattle.laying.proofs.Allowed.{link_low, link_high}
 use Rattle.laying.proofs.rules.may_link.Statement.{statement}
 use Rattle.laying.proofs.rules.may_link.Tie as tie
 
-returns : tie.Need-returns
-returns c = sym (link_low c.before.args.t (rw (to_z-of_z w32 c.before.args.t c.before.ranges.t) at c.if1.true))
+returns : tie.Need-returns-then-t-ltminus1
+returns c = sym (link_low c.args.t (rw (to_z-of_z w32 c.args.t c.ranges.t) at c.if-t-ltminus1.true))
 
-returns_2 : tie.Need-returns-2
+returns_2 : tie.Need-returns
 returns_2 c =
-    let t = c.before.args.t in
-    let e = to_z-of_z w32 t c.before.ranges.t in
-    rw e (link_high t (rw e at c.if1.false))
+    let t = c.args.t in
+    let e = to_z-of_z w32 t c.ranges.t in
+    rw e (link_high t (rw e at c.if-t-ltminus1.false))
 
 pub may_link_spec : {M : Type 1} → statement M
 may_link_spec = tie.close (tie.spec returns returns_2)

@@ -6,19 +6,19 @@ use Rattle.laying.proofs.Laying.{fits_inside}
 use Rattle.laying.proofs.words.turn.Statement.{statement}
 use Rattle.laying.proofs.words.turn.Tie as tie
 
-lay_on_requires : tie.Need-lay-on-requires
+lay_on_requires : tie.Need-lay_on-requires
 lay_on_requires c κs =
-    let s = c.before.before.before.before.before in
-    (s.requires, fits_inside area_floor s.args.floor.now s.args.r (sym c.before.before.may-lay.ensures ∙ c.before.if1.true))
+    let s = c.before.before.before.before in
+    (s.requires, fits_inside area_floor s.args.floor.now s.args.r (sym c.may_lay.ensures ∙ c.if-may_lay.true))
 
-returns : tie.Need-returns
+returns : tie.Need-returns-then-may_lay
 returns c =
-    let e = sym c.before.before.before.before.before.may-lay.ensures ∙ c.before.before.before.before.if1.true in
-    (sym e, rw e c.before.before.lay-on.ensures)
+    let e = sym c.may_lay.ensures ∙ c.if-may_lay.true in
+    (sym e, rw e c.lay_on.ensures)
 
-returns_2 : tie.Need-returns-2
+returns_2 : tie.Need-returns
 returns_2 c =
-    let e = sym c.before.may-lay.ensures ∙ c.if1.false in
+    let e = sym c.may_lay.ensures ∙ c.if-may_lay.false in
     (sym e, rw e)
 
 pub turn_spec : {M : Type 1} → statement M
