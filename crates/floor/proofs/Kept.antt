@@ -1,7 +1,7 @@
 -- A floor's parts with other header floats, materials and edge entries: what each rule keeps of them. The tables of vertices, corners,
 -- normals, distances, nodes, adjacency and perimeters stay, so all that reads only these stays as it is. Assumes nothing.
 use mathlib.Core.Path.{◌≡◌, refl}
-use mathlib.Core.Logic.{◌⊎◌, inl, inr, ⊎_elim}
+use mathlib.Core.Logic.{inl, inr, ⊎_elim}
 use mathlib.Core.List.{List, [], ◌∷◌}
 use Prim.Native.Nat.{ℕ, ◌<◌}
 use lib.ListN.{get_or}

@@ -8,11 +8,11 @@ returns : tie.Need-returns
 unfolding answer_of
 returns c =
     rw (
-      c.before.before.before.count_of.ensures.0,
-      c.before.before.count-of2.ensures.0,
-      c.before.count-of3.ensures.0,
-      c.count-of4.ensures.0,
-      c.before.before.before.before.before.requires.1,
+      c.count_of-faces.ensures.0,
+      c.count_of-walkable.ensures.0,
+      c.count_of-edges.ensures.0,
+      c.count_of-perimeters.ensures.0,
+      c.requires.1,
     )
 
 pub counted_spec : {M : Type 1} → statement M

@@ -12,30 +12,30 @@ use Rattle.floor.proofs.Meaning.{accepted_of}
 use Rattle.floor.proofs.rewrite_verdict.Statement.{statement}
 use Rattle.floor.proofs.rewrite_verdict.Tie as tie
 
-returns : tie.Need-returns
+returns : tie.Need-returns-then-so-ne0
 unfolding rewrite_verdict
 returns c =
-    let so = c.before.before.before.before.read-verdict in
-    (stops _ _ _ so.ensures.0 c.if1.true, so.ensures.1)
+    let so = c.read_verdict-so in
+    (stops _ _ _ so.ensures.0 c.if-so-ne0.true, so.ensures.1)
 
 -- the floor is accepted
-right : (c : tie.Else1) → Accepted c.before.before.before.before.before.before.before.before.before.args.bytes.now
-right c = accepted_of _ _ (zero _ _ c.before.before.before.before.read-verdict.ensures.0 c.if1.false)
+right : (c : tie.Else-so-ne0) → Accepted c.args.bytes.now
+right c = accepted_of _ _ (zero _ _ c.read_verdict-so.ensures.0 c.if-so-ne0.false)
 
-form_length_requires : tie.Need-form-length-requires
+form_length_requires : tie.Need-form_length-requires
 form_length_requires c κs = (right c).header
 
 -- 40 if the output is shorter than the form
-short : (c : tie.After-first-rule) → let a = c.before.before.before.before.before.before.before.before.before.before.before.args in c.first-rule.result ≡ rule 40 (ltb (length a.out.now) c.before.form-length.result) 0
-short c = c.first-rule.ensures
+short : (c : tie.After-first_rule) → let a = c.args in c.first_rule.result ≡ rule 40 (ltb (length a.out.now) c.form_length.result) 0
+short c = c.first_rule.ensures
 
-returns_2 : tie.Need-returns-2
+returns_2 : tie.Need-returns
 unfolding rewrite_verdict fixed_form
 returns_2 c =
     let e = c.before.before in
-    let so = e.before.before.before.before.read-verdict in
-    let out = e.before.before.before.before.before.before.before.before.before.args.out.now in
-    (goes_on _ _ so.result _ so.ensures.0 e.if1.false (short c ∙ ap (λ (n : ℕ). rule 40 (ltb (length out) n) 0) c.before.form-length.ensures.0), so.ensures.1)
+    let so = e.read_verdict-so in
+    let out = e.args.out.now in
+    (goes_on _ _ so.result _ so.ensures.0 e.if-so-ne0.false (short c ∙ ap (λ (n : ℕ). rule 40 (ltb (length out) n) 0) c.form_length.ensures.0), so.ensures.1)
 
 pub rewrite_verdict_spec : {M : Type 1} → statement M
 rewrite_verdict_spec =

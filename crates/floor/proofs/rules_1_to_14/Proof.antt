@@ -9,26 +9,26 @@ use Rattle.floor.proofs.Meaning.{Shaped, shape_met}
 use Rattle.floor.proofs.rules_1_to_14.Statement.{statement}
 use Rattle.floor.proofs.rules_1_to_14.Tie as tie
 
-right : (c : tie.Else1) → RightHeader c.before.before.before.before.before.args.bytes.now
-right c = zero _ _ c.before.before.header-verdict.ensures c.if1.false
+right : (c : tie.Else-header-ne0) → RightHeader c.args.bytes.now
+right c = zero _ _ c.header_verdict-header.ensures c.if-header-ne0.false
 
-shaped : (c : tie.Else2) → Shaped (parts_of c.before.before.before.before.before.before.before.before.args.bytes.now)
-shaped c = shape_met _ (right c.before.before.before) (zero _ _ c.before.before.shape-verdict.ensures c.if2.false)
+shaped : (c : tie.Else-shape-ne0) → Shaped (parts_of c.args.bytes.now)
+shaped c = shape_met _ (right c.before.before.before) (zero _ _ c.shape_verdict-shape.ensures c.if-shape-ne0.false)
 
-returns : tie.Need-returns
+returns : tie.Need-returns-then-header-ne0
 unfolding rules1to14
-returns c = (stops _ _ _ c.before.before.header-verdict.ensures c.if1.true, refl)
+returns c = (stops _ _ _ c.header_verdict-header.ensures c.if-header-ne0.true, refl)
 
-shape_verdict_requires : tie.Need-shape-verdict-requires
+shape_verdict_requires : tie.Need-shape_verdict-shape-requires
 shape_verdict_requires c κs = right c
 
-returns_2 : tie.Need-returns-2
+returns_2 : tie.Need-returns-then-shape-ne0
 unfolding rules1to14
 returns_2 c =
     let e = c.before.before.before in
-    (goes_on _ _ _ _ e.before.before.header-verdict.ensures e.if1.false (stops _ _ _ c.before.before.shape-verdict.ensures c.if2.true), refl)
+    (goes_on _ _ _ _ e.header_verdict-header.ensures e.if-header-ne0.false (stops _ _ _ c.shape_verdict-shape.ensures c.if-shape-ne0.true), refl)
 
-tree_verdict_requires : tie.Need-tree-verdict-requires
+tree_verdict_requires : tie.Need-tree_verdict-requires
 tree_verdict_requires c κs =
     let there = c.before.before.before.before in
     let s = there.before.before.before.before.before in
@@ -36,14 +36,14 @@ tree_verdict_requires c κs =
     let q = shaped c.before in
     ((q.mesh.finite, q.mesh.cornered, q.closed), (h, s.requires))
 
-returns_3 : tie.Need-returns-3
+returns_3 : tie.Need-returns
 unfolding rules1to14
 returns_3 c =
-    let b = c.before.before.tree-verdict in
+    let b = c.tree_verdict in
     let f = c.before.before.before.before in
     let e = f.before.before.before in (
-      goes_on _ _ _ _ e.before.before.header-verdict.ensures e.if1.false
-          (goes_on _ _ _ _ f.before.before.shape-verdict.ensures f.if2.false b.ensures.0),
+      goes_on _ _ _ _ e.header_verdict-header.ensures e.if-header-ne0.false
+          (goes_on _ _ _ _ f.shape_verdict-shape.ensures f.if-shape-ne0.false b.ensures.0),
       b.ensures.1,
     )
 

@@ -8,23 +8,23 @@ use Rattle.floor.proofs.Meaning.{early_met}
 use Rattle.floor.proofs.rules_1_to_15.Statement.{statement}
 use Rattle.floor.proofs.rules_1_to_15.Tie as tie
 
-returns : tie.Need-returns
+returns : tie.Need-returns-then-early-ne0
 unfolding rules1to15
-returns c = let a = c.before.before.before.before.rules-1-to-14 in (stops _ _ _ a.ensures.0 c.if1.true, a.ensures.1)
+returns c = let a = c.rules_1_to_14-early in (stops _ _ _ a.ensures.0 c.if-early-ne0.true, a.ensures.1)
 
-runs_verdict_requires : tie.Need-runs-verdict-requires
+runs_verdict_requires : tie.Need-runs_verdict-requires
 runs_verdict_requires c κs =
     let a = c.before.before.before.before.before in
     let s = a.before.before.before.before in
-    ((early_met _ (zero _ _ a.rules-1-to-14.ensures.0 c.before.if1.false)).header, omega (arith, s.requires, a.rules-1-to-14.auto.1.0))
+    ((early_met _ (zero _ _ a.rules_1_to_14-early.ensures.0 c.if-early-ne0.false)).header, omega (arith, s.requires, a.rules_1_to_14-early.auto.work))
 
-returns_2 : tie.Need-returns-2
+returns_2 : tie.Need-returns
 unfolding rules1to15
 returns_2 c =
-    let b = c.before.before.runs-verdict in
+    let b = c.runs_verdict in
     let e = c.before.before.before.before in
-    let a = e.before.before.before.before.rules-1-to-14 in
-    (goes_on _ _ _ _ a.ensures.0 e.if1.false b.ensures.0, b.ensures.1 ∙ a.ensures.1)
+    let a = e.rules_1_to_14-early in
+    (goes_on _ _ _ _ a.ensures.0 e.if-early-ne0.false b.ensures.0, b.ensures.1 ∙ a.ensures.1)
 
 pub rules_1_to_15_spec : {M : Type 1} → statement M
 rules_1_to_15_spec = tie.close (tie.spec (λ c κs. search rules) (search rules) returns runs_verdict_requires (search rules) returns_2)

@@ -18,52 +18,52 @@ few : (s : tie.Start) → s.args.h < most_halves
 few s = omega (arith, (small s).few, s.requires.1.1)
 
 -- the vertex where it starts has a head
-low : (c : tie.After-from-of) → c.from-of.result < most_vertices
-low c = let s = c.before.before.before.before.before.before.before in omega (arith, c.from-of.ensures.0, (small s).start s.args.h s.requires.1.1)
+low : (c : tie.After-from_of-start) → c.from_of-start.result < most_vertices
+low c = let s = c.before.before.before.before.before in omega (arith, c.from_of-start.ensures.0, (small s).start s.args.h s.requires.1.1)
 
-is_border_requires : tie.Need-is-border-requires
-is_border_requires c κs = let s = c.before.before.before in asked_border _ _ s.requires.0 s.args.h s.requires.1.1
+is_border_requires : tie.Need-is_border-requires
+is_border_requires c κs = let s = c.before.before in asked_border _ _ s.requires.0 s.args.h s.requires.1.1
 
-from_of_requires : tie.Need-from-of-requires
-from_of_requires c κs = let s = c.before.before.before.before.before.before in asked_ends _ _ s.requires.0 s.args.h s.requires.1.1
+from_of_requires : tie.Need-from_of-start-requires
+from_of_requires c κs = let s = c.before.before.before.before in asked_ends _ _ s.requires.0 s.args.h s.requires.1.1
 
-u16_at_requires : tie.Need-u16-at-requires
-u16_at_requires c κs = omega (arith, low c.before, c.before.before.before.before.before.before.before.before.requires.0.long)
+u16_at_requires : tie.Need-u16_at-head-requires
+u16_at_requires c κs = omega (arith, low c.before, c.requires.0.long)
 
-mul_put_u16 : tie.Need-overflow-mul-put-u16
-mul_put_u16 c = omega (arith, few c.before.before.before.before.before.before.before.before.before.before)
+mul_put_u16 : tie.Need-overflow_mul-h
+mul_put_u16 c = omega (arith, few c.before.before.before.before.before.before.before)
 
-add_put_u16 : tie.Need-overflow-add-put-u16
-add_put_u16 c = omega (arith, few c.before.before.before.before.before.before.before.before.before.before)
+add_put_u16 : tie.Need-overflow_add-h
+add_put_u16 c = omega (arith, few c.before.before.before.before.before.before.before)
 
-put_u16_requires : tie.Need-put-u16-requires
-put_u16_requires c κs = let s = c.before.before.before.before.before.before.before.before.before.before in omega (arith, few s, s.requires.0.long)
+put_u16_requires : tie.Need-put_u16-requires
+put_u16_requires c κs = let s = c.before.before.before.before.before.before.before in omega (arith, few s, s.requires.0.long)
 
-put_u16_requires_2 : tie.Need-put-u16-requires-2
-put_u16_requires_2 c κs = omega (arith, low c.before.before.before.before.before.before.before, c.before.before.before.before.before.before.before.before.before.before.before.before.before.before.requires.0.long, c.before.before.before.put-u16.auto.0)
+put_u16_requires_2 : tie.Need-put_u16-requires-then-is_border
+put_u16_requires_2 c κs = omega (arith, low c.before.before.before.before.before.before.before, c.requires.0.long, c.put_u16.auto.0)
 
-returns : tie.Need-returns
+returns : tie.Need-returns-then-is_border
 returns c =
     let second = c.before.before in
     let first = second.before.before.before.before in
     let read = first.before.before in
     let from = read.before.before in
-    let test = from.before.before in
-    let s = test.before.before.before.before.before in
+    let test = from.before in
+    let s = test.before.before in
     let q = s.requires in
     let b = s.args.bytes.now in
     let m = s.args.work.now in
-    let is = sym test.before.is-border.ensures ∙ test.if1.true in
-    let at = from.from-of.ensures.0 in
+    let is = sym test.is_border.ensures ∙ test.if-is_border.true in
+    let at = from.from_of-start.ensures.0 in
     let most = head_low (web_in b) m s.args.h (small s) q.0.long q.1.1 is q.1.0 in (
-      chained_as (web_in b) m s.args.h (small s) q.0.long q.1.1 is q.1.0 from.from-of.result _ _ _ at read.u16-at.ensures.0 first.put-u16.ensures second.put-u162.ensures,
-      ready_chained b m _ _ s.args.h from.from-of.result _ q.0 q.1.1 is (low from) (omega (arith, most, read.u16-at.ensures.0, ap (head_in m) at)) first.put-u16.ensures second.put-u162.ensures,
+      chained_as (web_in b) m s.args.h (small s) q.0.long q.1.1 is q.1.0 from.from_of-start.result _ _ _ at read.u16_at-head.ensures.0 first.put_u16.ensures second.put_u16-then-is_border.ensures,
+      ready_chained b m _ _ s.args.h from.from_of-start.result _ q.0 q.1.1 is (low from) (omega (arith, most, read.u16_at-head.ensures.0, ap (head_in m) at)) first.put_u16.ensures second.put_u16-then-is_border.ensures,
     )
 
-returns_2 : tie.Need-returns-2
+returns_2 : tie.Need-returns-else-is_border
 returns_2 c =
-    let s = c.before.before.before.before.before in
-    (chained_skip (web_in s.args.bytes.now) s.args.work.now s.args.h (sym c.before.is-border.ensures ∙ c.if1.false) s.requires.1.0, (s.requires.0, refl))
+    let s = c.before.before.before.before in
+    (chained_skip (web_in s.args.bytes.now) s.args.work.now s.args.h (sym c.is_border.ensures ∙ c.if-is_border.false) s.requires.1.0, (s.requires.0, refl))
 
 pub chain_one_spec : {M : Type 1} → statement M
 chain_one_spec = tie.close (tie.spec is_border_requires from_of_requires (search rules) u16_at_requires mul_put_u16 add_put_u16 (search rules) put_u16_requires (search rules) put_u16_requires_2 (search rules) returns (search rules) returns_2)

@@ -18,32 +18,32 @@ small s = small_of _ s.args.work.now s.requires.0
 few : (s : tie.Start) → s.args.h < most_halves
 few s = omega (arith, (small s).few, s.requires.1.head.inside)
 
-from_of_requires : tie.Need-from-of-requires
-from_of_requires c κs = let s = c.before.before.before in asked_ends _ _ s.requires.0 s.args.h s.requires.1.head.inside
+from_of_requires : tie.Need-from_of-start-requires
+from_of_requires c κs = let s = c.before.before in asked_ends _ _ s.requires.0 s.args.h s.requires.1.head.inside
 
-to_of_requires : tie.Need-to-of-requires
-to_of_requires c κs = let s = c.before.before.before.before.before in asked_ends _ _ s.requires.0 s.args.h s.requires.1.head.inside
+to_of_requires : tie.Need-to_of-end-requires
+to_of_requires c κs = let s = c.before.before.before in asked_ends _ _ s.requires.0 s.args.h s.requires.1.head.inside
 
-mul_u16_at : tie.Need-overflow-mul-u16-at
-mul_u16_at c = omega (arith, few c.before.before.before.before.before.before.before)
+mul_u16_at : tie.Need-overflow_mul-h
+mul_u16_at c = omega (arith, few c.before.before.before.before)
 
-add_u16_at : tie.Need-overflow-add-u16-at
-add_u16_at c = omega (arith, few c.before.before.before.before.before.before.before)
+add_u16_at : tie.Need-overflow_add-h
+add_u16_at c = omega (arith, few c.before.before.before.before)
 
-u16_at_requires : tie.Need-u16-at-requires
-u16_at_requires c κs = let s = c.before.before.before.before.before.before.before in omega (arith, few s, s.requires.0.long)
+u16_at_requires : tie.Need-u16_at-behind-requires
+u16_at_requires c κs = let s = c.before.before.before.before in omega (arith, few s, s.requires.0.long)
 
 -- what is due is a border, and its number says so
-sub_behind : tie.Need-overflow-sub-behind
+sub_behind : tie.Need-overflow_sub-behind
 sub_behind c =
-    let s = c.before.before.before.before.before.before.before.before in
+    let s = c.before.before.before.before.before in
     let q = s.requires in
-    omega (arith, c.u16-at.ensures.0, q.0.mated.borders s.args.h q.1.head.inside (due_border _ _ _ s.args.h q.1))
+    omega (arith, c.u16_at-behind.ensures.0, q.0.mated.borders s.args.h q.1.head.inside (due_border _ _ _ s.args.h q.1))
 
-put_u16_requires_2 : tie.Need-put-u16-requires-2
+put_u16_requires_2 : tie.Need-put_u16-requires-2
 put_u16_requires_2 c κs =
-    let s = c.before.before.before.before.before.before.before.before.before.before.before.before.before in
-    omega (arith, c.before.before.before.before.before.before.before.before.before.from-of.ensures.0, (small s).start s.args.h s.requires.1.head.inside, s.requires.0.long, c.before.before.before.put-u16.auto.0)
+    let s = c.before.before.before.before.before.before.before.before.before.before in
+    omega (arith, c.from_of-start.ensures.0, (small s).start s.args.h s.requires.1.head.inside, s.requires.0.long, c.put_u16.auto.bytes)
 
 returns : tie.Need-returns
 returns c =
@@ -51,11 +51,11 @@ returns c =
     let first = second.before.before.before.before in
     let link = first.before.before in
     let end = link.before.before in
-    let start = end.before.before in
-    let s = start.before.before.before.before in (
-      end.to-of.ensures.0,
-      stepped_as (web_in s.args.bytes.now) s.args.work.now s.args.i s.args.h (small s) s.requires.0.long s.requires.1 start.from-of.result _ _ _ start.from-of.ensures.0
-          (ap (λ (x : ℕ). x - loose) link.u16-at.ensures.0) first.put-u16.ensures second.put-u162.ensures,
+    let start = end in
+    let s = start.before.before.before in (
+      end.to_of-end.ensures.0,
+      stepped_as (web_in s.args.bytes.now) s.args.work.now s.args.i s.args.h (small s) s.requires.0.long s.requires.1 start.from_of-start.result _ _ _ start.from_of-start.ensures.0
+          (ap (λ (x : ℕ). x - loose) link.u16_at-behind.ensures.0) first.put_u16.ensures second.put_u16-2.ensures,
     )
 
 pub step_spec : {M : Type 1} → statement M

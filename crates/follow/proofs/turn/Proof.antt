@@ -16,33 +16,33 @@ small : (s : tie.Start) → Small (web_in s.args.bytes.now)
 small s = small_of _ s.args.work.now s.requires.0
 
 -- the half-edge is free
-unspent : (c : tie.Then1) → let s = c.before.before.before.before.before in unused (web_in s.args.bytes.now) (edges_in s.args.work.now s.args.so.edges) s.args.c ≡ true
-unspent c = sym c.before.is_free.ensures ∙ c.if1.true
+unspent : (c : tie.Then-is_free) → let s = c.before.before.before.before in unused (web_in s.args.bytes.now) (edges_in s.args.work.now s.args.so.edges) s.args.c ≡ true
+unspent c = sym c.is_free.ensures ∙ c.if-is_free.true
 
 -- it is not
-spent : (c : tie.Else1) → let s = c.before.before.before.before.before in unused (web_in s.args.bytes.now) (edges_in s.args.work.now s.args.so.edges) s.args.c ≡ false
-spent c = sym c.before.is_free.ensures ∙ c.if1.false
+spent : (c : tie.Else-is_free) → let s = c.before.before.before.before in unused (web_in s.args.bytes.now) (edges_in s.args.work.now s.args.so.edges) s.args.c ≡ false
+spent c = sym c.is_free.ensures ∙ c.if-is_free.false
 
-ring_from_requires : tie.Need-ring-from-requires
-ring_from_requires c κs = let s = c.before.before.before.before.before.before in (s.requires.0, (s.requires.1.0, (unspent c.before, s.requires.1.1)))
+ring_from_requires : tie.Need-ring_from-n-requires
+ring_from_requires c κs = let s = c.before.before.before.before.before in (s.requires.0, (s.requires.1.0, (unspent c.before, s.requires.1.1)))
 
-add_t16 : tie.Need-overflow-add-t16
+add_t16 : tie.Need-overflow_add-result
 add_t16 c =
-    let s = c.before.before.before.before.before.before.before.before.before.before.before.before.before in
+    let s = c.before.before.before.before.before.before.before.before.before.before.before.before in
     omega (arith, (passed_few (web_in s.args.bytes.now) s.args.work.now s.args.so.edges s.args.so.rings s.args.c (small s) s.requires.1.0).1)
 
-returns : tie.Need-returns
+returns : tie.Need-returns-then-is_free
 returns c =
     let end = c.before.before in
     let rung = end.before.before.before.before in
     let free = rung.before.before in
-    let s = free.before.before.before.before.before in
-    let r = rung.ring-from in
-    passed_ring (web_in s.args.bytes.now) s.args.work.now _ s.args.so.edges s.args.so.rings s.args.c r.result (small s) (omega (arith, s.requires.0.long, r.auto.1.0)) s.requires.1.0 s.requires.1.1 (unspent free) r.ensures _ end.mark-end.ensures
+    let s = free.before.before.before.before in
+    let r = rung.ring_from-n in
+    passed_ring (web_in s.args.bytes.now) s.args.work.now _ s.args.so.edges s.args.so.rings s.args.c r.result (small s) (omega (arith, s.requires.0.long, r.auto.work)) s.requires.1.0 s.requires.1.1 (unspent free) r.ensures _ end.mark_end.ensures
 
-returns_2 : tie.Need-returns-2
+returns_2 : tie.Need-returns
 returns_2 c =
-    let s = c.before.before.before.before.before in
+    let s = c.before.before.before.before in
     (passed_skip (web_in s.args.bytes.now) s.args.work.now s.args.so.edges s.args.so.rings s.args.c s.requires.1.0 (spent c), refl)
 
 pub turn_spec : {M : Type 1} → statement M

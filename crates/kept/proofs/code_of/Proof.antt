@@ -8,13 +8,13 @@ use Rattle.kept.proofs.Entries.{code_of_none, code_of_some}
 use Rattle.kept.proofs.code_of.Statement.{statement}
 use Rattle.kept.proofs.code_of.Tie as tie
 
-returns : tie.Need-returns
-returns c = (sym (code_of_some c.before.args.t c.if1.true), omega arith)
+returns : tie.Need-returns-then-t-le63
+returns c = (sym (code_of_some c.args.t c.if-t-le63.true), omega arith)
 
-returns_2 : tie.Need-returns-2
+returns_2 : tie.Need-returns
 returns_2 c =
-    let none : c.before.args.t ≡ none32 = ⊎_elim (λ l. absurd (omega arith)) (λ e. e) c.before.requires in
-    (sym (code_of_none c.before.args.t none), omega arith)
+    let none : c.args.t ≡ none32 = ⊎_elim (λ l. absurd (omega arith)) (λ e. e) c.requires in
+    (sym (code_of_none c.args.t none), omega arith)
 
 pub code_of_spec : {M : Type 1} → statement M
 code_of_spec = tie.close (tie.spec (search rules) returns returns_2)

@@ -24,21 +24,21 @@ few : (s : tie.Start) → s.args.h < 12288
 few s = omega (arith, under s, few_walkable s.args.bytes.now s.requires.0.0)
 
 -- the code as it is read
-told : (c : tie.After-u16-at) → let s = c.before.before.before in c.u16-at.result % led_mark ≡ code_by (parts s) (parts s).edges s.args.h
+told : (c : tie.After-u16_at-code) → let s = c.before.before.before in c.u16_at-code.result % led_mark ≡ code_by (parts s) (parts s).edges s.args.h
 told c =
     let s = c.before.before.before in
-    (all_read s.args.bytes.now s.args.work.now s.args.h _ s.requires.0.0 s.requires.1 (under s) c.u16-at.ensures.0).border_low s.requires.0.2
+    (all_read s.args.bytes.now s.args.work.now s.args.h _ s.requires.0.0 s.requires.1 (under s) c.u16_at-code.ensures.0).border_low s.requires.0.2
 
-returns : tie.Need-returns
-returns c = kept_low _ _ _ (omega (arith, told c.before, c.if1.true))
+returns : tie.Need-returns-then-code-lt2
+returns c = kept_low _ _ _ (omega (arith, told c.before, c.if-code-lt2.true))
 
-returns_2 : tie.Need-returns-2
-returns_2 c = sym (several_none _ _ _ (sym (told c.before.before) ∙ c.if2.true))
+returns_2 : tie.Need-returns-then-code-eq-SEVERAL
+returns_2 c = sym (several_none _ _ _ (sym (told c.before.before) ∙ c.if-code-eq-SEVERAL.true))
 
-returns_3 : tie.Need-returns-3
+returns_3 : tie.Need-returns
 returns_3 c =
     let e = told c.before.before in
-    rw e (kept_lone _ _ _ (omega (arith, e, c.before.if1.false)) (λ z. c.if2.false (e ∙ z)))
+    rw e (kept_lone _ _ _ (omega (arith, e, c.if-code-lt2.false)) (λ z. c.if-code-eq-SEVERAL.false (e ∙ z)))
 
 pub kept_of_spec : {M : Type 1} → statement M
-kept_of_spec = tie.close (tie.spec (λ c. omega (arith, few c.before.before)) (λ c. omega (arith, few c.before.before)) (λ c κs. omega (arith, few c.before.before, c.before.before.requires.0.1)) returns returns_2 (search rules) returns_3)
+kept_of_spec = tie.close (tie.spec (λ c. omega (arith, few c.before.before)) (λ c. omega (arith, few c.before.before)) (λ c κs. omega (arith, few c.before.before, c.requires.0.1)) returns returns_2 (search rules) returns_3)

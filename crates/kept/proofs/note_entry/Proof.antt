@@ -16,47 +16,47 @@ use Rattle.kept.proofs.note_entry.Tie as tie
 abbrev parts : tie.Start → Parts
 parts s = parts_of s.args.bytes.now
 
-valid : (c : tie.Then1) → let s = c.before.before.before.before in valid_entry (parts s) s.args.i ≡ true
-valid c = sym c.before.is-valid.ensures ∙ c.if1.true
+valid : (c : tie.Then-is_valid) → let s = c.before.before.before.before in valid_entry (parts s) s.args.i ≡ true
+valid c = sym c.is_valid.ensures ∙ c.if-is_valid.true
 
 -- the half-edge that it names has a note
-low : (c : tie.After-edge-of) → c.Edge-of.result < 12288
+low : (c : tie.After-edge_of-h) → c.edge_of-h.result < 12288
 low c =
     let s = c.before.before.before.before.before in
-    omega (arith, c.Edge-of.ensures, (valid_parts (parts s) s.args.i (valid c.before)).0, few_walkable s.args.bytes.now s.requires.0.0)
+    omega (arith, c.edge_of-h.ensures, (valid_parts (parts s) s.args.i (valid c.before)).0, few_walkable s.args.bytes.now s.requires.0.0)
 
-u16_at_requires : tie.Need-u16-at-requires
-u16_at_requires c κs = let h = c.before.before in omega (arith, low h, h.before.before.before.before.before.requires.0.1)
+u16_at_requires : tie.Need-u16_at-x-requires
+u16_at_requires c κs = let h = c.before in omega (arith, low h, h.requires.0.1)
 
-noted_more_requires : tie.Need-noted-more-requires
+noted_more_requires : tie.Need-noted_more-y-requires
 noted_more_requires c κs =
     let t = c.before.before in
-    let s = t.before.before.before.before.before.before in
-    (c.u16-at.ensures.1, rw t.transition-of.ensures (valid_parts (parts s) s.args.i (valid t.before.before)).1)
+    let s = t.before.before.before.before.before in
+    (c.u16_at-x.ensures.1, rw t.transition_of-t.ensures (valid_parts (parts s) s.args.i (valid t.before.before)).1)
 
-put_u16_requires : tie.Need-put-u16-requires
+put_u16_requires : tie.Need-put_u16-requires
 put_u16_requires c κs =
-    let h = c.before.before.before.before.before in omega (arith, low h, h.before.before.before.before.before.requires.0.1)
+    let h = c.before.before.before.before in omega (arith, low h, h.requires.0.1)
 
-returns : tie.Need-returns
+returns : tie.Need-returns-then-is_valid
 returns c =
     let put = c.before.before in
     let more = put.before.before in
     let read = more.before in
     let t = read.before.before in
-    let h = t.before in
+    let h = t in
     let s = h.before.before.before.before.before in
     let w = s.args.work.now in
-    let is = put.put-u16.ensures in (
+    let is = put.put_u16.ensures in (
       noted_valid _ _ _ w s.requires.1 (few_halves _ s.requires.0.0) (as_many (parts s)) s.requires.0.1 (valid h.before) _ _ _ _ _
-          h.Edge-of.ensures t.transition-of.ensures read.u16-at.ensures.0 more.noted_more.ensures.0 more.noted_more.ensures.1 is,
+          h.edge_of-h.ensures t.transition_of-t.ensures read.u16_at-x.ensures.0 more.noted_more-y.ensures.0 more.noted_more-y.ensures.1 is,
       (rw is (note_top w _ _ (low h)), rw is (note_below w _ _)),
     )
 
-returns_2 : tie.Need-returns-2
+returns_2 : tie.Need-returns-else-is_valid
 returns_2 c =
     let s = c.before.before.before.before in
-    (noted_invalid _ _ _ _ s.requires.1 (sym c.before.is-valid.ensures ∙ c.if1.false), (refl, refl))
+    (noted_invalid _ _ _ _ s.requires.1 (sym c.is_valid.ensures ∙ c.if-is_valid.false), (refl, refl))
 
 pub note_entry_spec : {M : Type 1} → statement M
-note_entry_spec = tie.close (tie.spec (λ c κs. search rules) (λ c κs. search rules) (λ c κs. search rules) (λ c. omega (arith, low c.before.before)) (λ c. omega (arith, low c.before.before)) u16_at_requires noted_more_requires (λ c. omega (arith, low c.before.before.before.before.before)) (λ c. omega (arith, low c.before.before.before.before.before)) put_u16_requires (search rules) returns returns_2)
+note_entry_spec = tie.close (tie.spec (λ c κs. search rules) (λ c κs. search rules) (λ c κs. search rules) (λ c. omega (arith, low c.before)) (λ c. omega (arith, low c.before)) u16_at_requires noted_more_requires (λ c. omega (arith, low c.before.before.before.before.before)) (λ c. omega (arith, low c.before.before.before.before.before)) put_u16_requires (search rules) returns returns_2)

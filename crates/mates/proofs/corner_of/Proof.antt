@@ -9,18 +9,18 @@ use Rattle.corners.proofs.Corners.{mended_corner}
 use Rattle.mates.proofs.corner_of.Statement.{statement}
 use Rattle.mates.proofs.corner_of.Tie as tie
 
-lowest_of_requires : tie.Need-lowest-of-requires
+lowest_of_requires : tie.Need-lowest_of-requires
 lowest_of_requires c κs =
     let s = c.before.before.before in
     let p = parts_of s.args.bytes.now in
     let r = s.requires.0 in
-    ((r.0, subst (λ (v : ℕ). v < p.vertices) (sym c.corner-of.ensures.0) (r.1.under _ _ r.2 r.3)), s.requires.1)
+    ((r.0, subst (λ (v : ℕ). v < p.vertices) (sym c.corner_of.ensures.0) (r.1.under _ _ r.2 r.3)), s.requires.1)
 
 returns : tie.Need-returns
 returns c =
     let s = c.before.before.before.before in
     let r = s.requires.0 in
-    c.lowest-of.ensures.0 ∙ ap (lowest_same (parts_of s.args.bytes.now)) c.before.corner-of.ensures.0
+    c.lowest_of.ensures.0 ∙ ap (lowest_same (parts_of s.args.bytes.now)) c.corner_of.ensures.0
     ∙ sym (mended_corner _ (sized_of s.args.bytes.now r.0) _ _ r.2 r.3)
 
 pub corner_of_spec : {M : Type 1} → statement M

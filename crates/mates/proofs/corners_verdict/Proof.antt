@@ -17,91 +17,91 @@ use Rattle.mates.proofs.Verdict.{pinch_stops, pinch_none, repeat_hit, repeat_no,
 use Rattle.mates.proofs.corners_verdict.Statement.{statement}
 use Rattle.mates.proofs.corners_verdict.Tie as tie
 
-first_pinched_requires : tie.Need-first-pinched-requires
+first_pinched_requires : tie.Need-first_pinched-pinched-requires
 first_pinched_requires c κs =
-    let count = c.before in
-    let mapped = count.before.before.before in
-    let s = mapped.before.before.before.before.requires in
-    ((s.0, s.1, s.2, count.count_of.ensures.0), (omega (arith, s.3, mapped.map-vertices.auto.1.0), mapped.map-vertices.ensures.0))
+    let count = c in
+    let mapped = count.before.before in
+    let s = mapped.requires in
+    ((s.0, s.1, s.2, count.count_of-faces.ensures.0), (omega (arith, s.3, mapped.map_vertices.auto.work), mapped.map_vertices.ensures.0))
 
-returns : tie.Need-returns
+returns : tie.Need-returns-then-pinched-faces
 returns c =
     let pinch = c.before.before in
-    let count = pinch.before.before in
-    let mapped = count.before.before.before in (
-      pinch_stops _ _ _ _ (count.count_of.ensures.0 ∙ sym (faces_same _)) pinch.first-pinched.ensures c.before.if1.true c.first-rule.ensures,
-      (mapped.map-vertices.ensures.1, λ z. refusal 8 _ _ (omega arith) c.first-rule.ensures z),
+    let count = pinch.before in
+    let mapped = count.before.before in (
+      pinch_stops _ _ _ _ (count.count_of-faces.ensures.0 ∙ sym (faces_same _)) pinch.first_pinched-pinched.ensures c.if-pinched-faces.true c.first_rule.ensures,
+      (mapped.map_vertices.ensures.1, λ z. refusal 8 _ _ (omega arith) c.first_rule.ensures z),
     )
 
 -- 8 is met, so that the answer is that of 15
-only_15 : (c : tie.Else1)
-    → let q = recornered (parts_of c.before.before.before.before.before.before.before.before.before.before.args.bytes.now) in
+only_15 : (c : tie.Else-pinched-faces)
+    → let q = recornered (parts_of c.args.bytes.now) in
     (rule8 q then rule15 q) ≡ rule15 q
 only_15 c =
     let pinch = c.before in
-    pinch_none _ _ _ (pinch.before.before.count_of.ensures.0 ∙ sym (faces_same _)) pinch.first-pinched.ensures c.if1.false
+    pinch_none _ _ _ (pinch.count_of-faces.ensures.0 ∙ sym (faces_same _)) pinch.first_pinched-pinched.ensures c.if-pinched-faces.false
 
-first_repeat_requires : tie.Need-first-repeat-requires
+first_repeat_requires : tie.Need-first_repeat-twice-requires
 first_repeat_requires c κs =
-    let mapped = c.before.before.before.before.before.before.before.before in
-    let s = mapped.before.before.before.before.requires in
-    ((s.0, s.2), (omega (arith, s.3, mapped.map-vertices.auto.1.0), mapped.map-vertices.ensures.0))
+    let mapped = c.before.before.before.before.before.before.before in
+    let s = mapped.requires in
+    ((s.0, s.2), (omega (arith, s.3, mapped.map_vertices.auto.work), mapped.map_vertices.ensures.0))
 
 -- the place where 8 was met, seen from where 15 is decided; there the number of half-edges is that of the floor as it was
-abbrev met : tie.After-first-repeat → tie.Else1
+abbrev met : tie.After-first_repeat-twice → tie.Else-pinched-faces
 met c = c.before.before.before
 
-abbrev at_map : tie.After-first-repeat → tie.After-map-vertices
+abbrev at_map : tie.After-first_repeat-twice → tie.After-map_vertices
 at_map c = (met c).before.before.before.before.before.before
 
-abbrev parts : tie.After-first-repeat → Parts
-parts c = parts_of (at_map c).before.before.before.before.args.bytes.now
+abbrev parts : tie.After-first_repeat-twice → Parts
+parts c = parts_of (at_map c).args.bytes.now
 
-returns_2 : tie.Need-returns-2
+returns_2 : tie.Need-returns-then-twice-n
 returns_2 c =
     let found = c.before.before.before.before in
-    let n = found.before.before.halves_of.ensures.0 in (
-      repeat_hit _ _ _ _ (sym (halves_same _)) found.first-repeat.ensures.0 (omega (arith, n, c.before.if2.true)) c.first-rule2.ensures ∙ sym (only_15 (met found)),
-      (top_past _ _ found.first-repeat.ensures.1.1 ∙ (at_map found).map-vertices.ensures.1, λ z. refusal 15 _ _ (omega arith) c.first-rule2.ensures z),
+    let n = found.halves_of-n.ensures.0 in (
+      repeat_hit _ _ _ _ (sym (halves_same _)) found.first_repeat-twice.ensures.0 (omega (arith, n, c.if-twice-n.true)) c.first_rule-then-twice-n.ensures ∙ sym (only_15 (met found)),
+      (top_past _ _ found.first_repeat-twice.ensures.1.1 ∙ (at_map found).map_vertices.ensures.1, λ z. refusal 15 _ _ (omega arith) c.first_rule-then-twice-n.ensures z),
     )
 
-put_mates_requires : tie.Need-put-mates-requires
+put_mates_requires : tie.Need-put_mates-requires
 put_mates_requires c κs =
     let found = c.before.before.before.before in
     let p = parts found in
     let mapped = at_map found in
-    let s = mapped.before.before.before.before.requires in
-    let n = found.before.before.halves_of.ensures.0 in
-    let e = found.first-repeat.ensures.0 in
-    let all : found.first-repeat.result ≡ halves p = omega (arith, lowest_within _ _ _ e, n, c.before.if2.false) in (
+    let s = mapped.requires in
+    let n = found.halves_of-n.ensures.0 in
+    let e = found.first_repeat-twice.ensures.0 in
+    let all : found.first_repeat-twice.result ≡ halves p = omega (arith, lowest_within _ _ _ e, n, c.if-twice-n.false) in (
       (s.0, s.2, repeat_apart _ _ _ (sym (halves_same p)) e (omega (arith, all))),
       (
-        (omega (arith, s.3, mapped.map-vertices.auto.1.0, found.first-repeat.auto.1.0), mapped_same p _ _ found.first-repeat.ensures.1.1 mapped.map-vertices.ensures.0),
-        subst (λ (k : ℕ). Chained run_chains (run_key (recornered p)) found.first-repeat.new.1.0 k) all found.first-repeat.ensures.1.0,
+        (omega (arith, s.3, mapped.map_vertices.auto.1.0, found.first_repeat-twice.auto.1.0), mapped_same p _ _ found.first_repeat-twice.ensures.1.1 mapped.map_vertices.ensures.0),
+        subst (λ (k : ℕ). Chained run_chains (run_key (recornered p)) found.first_repeat-twice.new.1.0 k) all found.first_repeat-twice.ensures.1.0,
       ),
     )
 
-returns_3 : tie.Need-returns-3
+returns_3 : tie.Need-returns
 returns_3 c =
     let put = c.before.before.before in
     let past = put.before.before in
     let found = past.before.before.before in
-    let n = found.before.before.halves_of.ensures.0 in
-    let kept = found.first-repeat.ensures.1.1 in
-    let mapped = (at_map found).map-vertices.ensures in (
-      repeat_no _ _ _ _ (sym (halves_same _)) found.first-repeat.ensures.0 (omega (arith, n, past.if2.false)) c.first-rule3.ensures ∙ sym (only_15 (met found)),
+    let n = found.halves_of-n.ensures.0 in
+    let kept = found.first_repeat-twice.ensures.1.1 in
+    let mapped = (at_map found).map_vertices.ensures in (
+      repeat_no _ _ _ _ (sym (halves_same _)) found.first_repeat-twice.ensures.0 (omega (arith, n, past.if-twice-n.false)) c.first_rule-2.ensures ∙ sym (only_15 (met found)),
       (
-        top_past _ _ put.put-mates.ensures.1 ∙ top_past _ _ kept ∙ mapped.1,
-        λ z. record { mapped = mapped_same _ _ _ (put.put-mates.ensures.1 ∙ kept) mapped.0; mated = put.put-mates.ensures.0 },
+        top_past _ _ put.put_mates.ensures.1 ∙ top_past _ _ kept ∙ mapped.1,
+        λ z. record { mapped = mapped_same _ _ _ (put.put_mates.ensures.1 ∙ kept) mapped.0; mated = put.put_mates.ensures.0 },
       ),
     )
 
 -- places are numbers of faces and of half-edges
-cast_first_rule : tie.Need-overflow-cast-first-rule
-cast_first_rule c = omega (arith, c.if1.true, c.before.before.before.count_of.ensures.1)
+cast_first_rule : tie.Need-overflow_cast-pinched
+cast_first_rule c = omega (arith, c.if-pinched-faces.true, c.count_of-faces.ensures.1)
 
-cast_first_rule_2 : tie.Need-overflow-cast-first-rule-2
-cast_first_rule_2 c = omega (arith, c.if2.true, c.before.before.before.before.before.halves_of.ensures)
+cast_first_rule_2 : tie.Need-overflow_cast-twice
+cast_first_rule_2 c = omega (arith, c.if-twice-n.true, c.halves_of-n.ensures)
 
 pub corners_verdict_spec : {M : Type 1} → statement M
 corners_verdict_spec = tie.close (tie.spec (λ c κs. search rules) (λ c κs. search rules) first_pinched_requires cast_first_rule (λ c κs. search rules) (search rules) returns (λ c κs. search rules) first_repeat_requires cast_first_rule_2 (λ c κs. search rules) (search rules) returns_2 put_mates_requires (λ c κs. search rules) (search rules) returns_3)

@@ -8,7 +8,7 @@ use Rattle.mates.proofs.point_key.Tie as tie
 
 returns : tie.Need-returns
 unfolding point_key point_chain
-returns c = (rw (c.before.before.point-word.ensures, c.before.point-word2.ensures, c.point-word3.ensures) refl, omega arith)
+returns c = (rw (c.point_word-x.ensures, c.point_word-y.ensures, c.point_word-z.ensures) refl, omega arith)
 
 pub point_key_spec : {M : Type 1} → statement M
 point_key_spec = tie.close (tie.spec (λ c κs. search rules) (search rules) (λ c κs. search rules) (search rules) (λ c κs. search rules) (search rules) (search rules) (search rules) (search rules) (search rules) (search rules) returns)

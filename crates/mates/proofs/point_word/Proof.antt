@@ -6,7 +6,7 @@ use Rattle.mates.proofs.point_word.Statement.{statement}
 use Rattle.mates.proofs.point_word.Tie as tie
 
 returns : tie.Need-returns
-returns c = c.plain_of_lem.ensures ∙ ap plain c.before.word_of_lem.ensures
+returns c = c.plain_of.ensures ∙ ap plain c.word_of-w.ensures
 
 pub point_word_spec : {M : Type 1} → statement M
 point_word_spec = tie.close (tie.spec (λ c κs. search rules) (λ c κs. search rules) returns)

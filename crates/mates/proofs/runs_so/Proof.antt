@@ -5,13 +5,13 @@ use Rattle.pairs.specs.Halves.{runs}
 use Rattle.mates.proofs.runs_so.Statement.{statement}
 use Rattle.mates.proofs.runs_so.Tie as tie
 
-returns : tie.Need-returns
+returns : tie.Need-returns-then-from_of-a
 unfolding runs
-returns c = rw (← c.before.before.from-of.ensures.0, ← c.to-of.ensures.0, eq-eqb _ _ c.before.if1.true)
+returns c = rw (← c.from_of.ensures.0, ← c.to_of.ensures.0, eq-eqb _ _ c.if-from_of-a.true)
 
-returns_2 : tie.Need-returns-2
+returns_2 : tie.Need-returns
 unfolding runs
-returns_2 c = rw (← c.before.from-of.ensures.0, ne_eqb _ _ c.if1.false)
+returns_2 c = rw (← c.from_of.ensures.0, ne_eqb _ _ c.if-from_of-a.false)
 
 pub runs_so_spec : {M : Type 1} → statement M
 runs_so_spec = tie.close (tie.spec (λ c κs. search rules) (λ c κs. search rules) returns returns_2)

@@ -50,97 +50,97 @@ abbrev parts : {t : ℕ} → put-range-lts.Start (G t) (put_range_at t) put-rang
 parts s = parts_of s.args.bytes.now
 
 -- past the test there are two faces or more
-two_at : (t : ℕ) (c : put-range-lts.Else1 (G t) (put_range_at t) put-range.Post) → 2 ≤ c.before.before.before.args.n
+two_at : (t : ℕ) (c : put-range-lts.Else-n-le1 (G t) (put_range_at t) put-range.Post) → 2 ≤ c.args.n
 two_at t c = omega arith
 
-put_range_face_box_requires : (t : ℕ) → put-range-lts.Need-face-box-requires (G t) (put_range_at t) put-range.Post
+put_range_face_box_requires : (t : ℕ) → put-range-lts.Need-face_box-b-requires (G t) (put_range_at t) put-range.Post
 put_range_face_box_requires t c κs = let s = c.before.before.before in (s.requires.1.0, omega (arith, s.requires.1.1))
 
-put_range_mul_put_leaf : (t : ℕ) → put-range-lts.Need-overflow-mul-put-leaf (G t) (put_range_at t) put-range.Post
+put_range_mul_put_leaf : (t : ℕ) → put-range-lts.Need-overflow_mul-at (G t) (put_range_at t) put-range.Post
 put_range_mul_put_leaf t c = omega arith
 
-put_range_add_put_leaf : (t : ℕ) → put-range-lts.Need-overflow-add-put-leaf (G t) (put_range_at t) put-range.Post
+put_range_add_put_leaf : (t : ℕ) → put-range-lts.Need-overflow_add-start (G t) (put_range_at t) put-range.Post
 put_range_add_put_leaf t c = omega arith
 
-put_range_cast_put_leaf : (t : ℕ) → put-range-lts.Need-overflow-cast-put-leaf (G t) (put_range_at t) put-range.Post
+put_range_cast_put_leaf : (t : ℕ) → put-range-lts.Need-overflow_cast-from (G t) (put_range_at t) put-range.Post
 put_range_cast_put_leaf t c = omega arith
 
-put_range_put_leaf_requires : (t : ℕ) → put-range-lts.Need-put-leaf-requires (G t) (put_range_at t) put-range.Post
+put_range_put_leaf_requires : (t : ℕ) → put-range-lts.Need-put_leaf-requires (G t) (put_range_at t) put-range.Post
 put_range_put_leaf_requires t c κs =
     let s = c.before.before.before.before.before in
     let r = s.requires.1.0 in
-    (subst (Sides Good) (sym c.before.face-box.ensures) (face_good (parts s) r.finite.vertex r.cornered.under s.args.from (omega (arith, s.requires.1.1))), omega (arith, s.requires.1.1))
+    (subst (Sides Good) (sym c.face_box-b.ensures) (face_good (parts s) r.finite.vertex r.cornered.under s.args.from (omega (arith, s.requires.1.1))), omega (arith, s.requires.1.1))
 
-put_range_same_length : (t : ℕ) → put-range-lts.Need-same-length (G t) (put_range_at t) put-range.Post
+put_range_same_length : (t : ℕ) → put-range-lts.Need-shape_of-out-then-n-le1 (G t) (put_range_at t) put-range.Post
 put_range_same_length t c = search rules
 
-put_range_returns : (t : ℕ) → put-range-lts.Need-returns (G t) (put_range_at t) put-range.Post
+put_range_returns : (t : ℕ) → put-range-lts.Need-returns-then-n-le1 (G t) (put_range_at t) put-range.Post
 put_range_returns t c =
     let s = c.before.before.before.before.before.before.before.before in
-    leaf_written (parts s) s.args.out.now s.args.start s.args.from s.args.n s.args.at (omega arith) c.before.before.before.before.face-box.ensures c.before.before.put-leaf.ensures
+    leaf_written (parts s) s.args.out.now s.args.start s.args.from s.args.n s.args.at (omega arith) c.face_box-b.ensures c.put_leaf.ensures
 
-put_range_sub_rest : (t : ℕ) → put-range-lts.Need-overflow-sub-rest (G t) (put_range_at t) put-range.Post
+put_range_sub_rest : (t : ℕ) → put-range-lts.Need-overflow_sub-rest (G t) (put_range_at t) put-range.Post
 put_range_sub_rest t c = omega arith
 
-put_range_add_put_range : (t : ℕ) → put-range-lts.Need-overflow-add-put-range (G t) (put_range_at t) put-range.Post
+put_range_add_put_range : (t : ℕ) → put-range-lts.Need-overflow_add-at (G t) (put_range_at t) put-range.Post
 put_range_add_put_range t c = omega arith
 
-put_range_put_range_requires : (t : ℕ) → put-range-lts.Need-put-range-requires (G t) (put_range_at t) put-range.Post
+put_range_put_range_requires : (t : ℕ) → put-range-lts.Need-put_range-lower-requires (G t) (put_range_at t) put-range.Post
 put_range_put_range_requires t c κs =
     let s = c.before.before.before.before in
     let r = s.requires.1.1 in
     (omega arith, (s.requires.1.0, record { some = omega arith; faces = omega (arith, r); few = omega (arith, r); nodes = omega (arith, r); room = omega (arith, r) }))
 
-put_range_add_put_range_2 : (t : ℕ) → put-range-lts.Need-overflow-add-put-range-2 (G t) (put_range_at t) put-range.Post
+put_range_add_put_range_2 : (t : ℕ) → put-range-lts.Need-overflow_add-from (G t) (put_range_at t) put-range.Post
 put_range_add_put_range_2 t c = omega arith
 
-put_range_mul_put_range : (t : ℕ) → put-range-lts.Need-overflow-mul-put-range (G t) (put_range_at t) put-range.Post
+put_range_mul_put_range : (t : ℕ) → put-range-lts.Need-overflow_mul-half (G t) (put_range_at t) put-range.Post
 put_range_mul_put_range t c = omega arith
 
-put_range_add_put_range_3 : (t : ℕ) → put-range-lts.Need-overflow-add-put-range-3 (G t) (put_range_at t) put-range.Post
+put_range_add_put_range_3 : (t : ℕ) → put-range-lts.Need-overflow_add-at-2 (G t) (put_range_at t) put-range.Post
 put_range_add_put_range_3 t c = omega arith
 
-put_range_put_range_requires_2 : (t : ℕ) → put-range-lts.Need-put-range-requires-2 (G t) (put_range_at t) put-range.Post
+put_range_put_range_requires_2 : (t : ℕ) → put-range-lts.Need-put_range-upper-requires (G t) (put_range_at t) put-range.Post
 put_range_put_range_requires_2 t c κs =
     let s = c.before.before.before.before.before.before.before.before in
     let r = s.requires.1.1 in
-    let long = c.before.before.before.put-range.auto.1.0 in
+    let long = c.put_range-lower.auto.out in
     (omega arith, (s.requires.1.0, record { some = omega arith; faces = omega (arith, r); few = omega (arith, r); nodes = omega (arith, r); room = omega (arith, r, long) }))
 
-put_range_around_both_requires : (t : ℕ) → put-range-lts.Need-around-both-requires (G t) (put_range_at t) put-range.Post
+put_range_around_both_requires : (t : ℕ) → put-range-lts.Need-around_both-b-requires (G t) (put_range_at t) put-range.Post
 put_range_around_both_requires t c κs = search rules
 
-put_range_mul_put_inner : (t : ℕ) → put-range-lts.Need-overflow-mul-put-inner (G t) (put_range_at t) put-range.Post
+put_range_mul_put_inner : (t : ℕ) → put-range-lts.Need-overflow_mul-at-2 (G t) (put_range_at t) put-range.Post
 put_range_mul_put_inner t c = let s = c.before.before.before.before.before.before.before.before.before.before.before.before.before in omega (arith, s.requires.1.1)
 
-put_range_add_put_inner : (t : ℕ) → put-range-lts.Need-overflow-add-put-inner (G t) (put_range_at t) put-range.Post
+put_range_add_put_inner : (t : ℕ) → put-range-lts.Need-overflow_add-start-2 (G t) (put_range_at t) put-range.Post
 put_range_add_put_inner t c = let s = c.before.before.before.before.before.before.before.before.before.before.before.before.before in omega (arith, s.requires.1.1)
 
-put_range_put_inner_requires : (t : ℕ) → put-range-lts.Need-put-inner-requires (G t) (put_range_at t) put-range.Post
+put_range_put_inner_requires : (t : ℕ) → put-range-lts.Need-put_inner-requires (G t) (put_range_at t) put-range.Post
 put_range_put_inner_requires t c κs =
     let s = c.before.before.before.before.before.before.before.before.before.before.before.before.before in
     let r = s.requires.1.0 in
-    let l = c.before.before.before.before.before.before.before.before.put-range in
-    let u = c.before.before.before.before.put-range2 in
-    let long : length u.new.1.0 ≡ length s.args.out.now = u.auto.1.0 ∙ l.auto.1.0 in
+    let l = c.put_range-lower in
+    let u = c.put_range-upper in
+    let long : length u.new.out ≡ length s.args.out.now = u.auto.out ∙ l.auto.1.0 in
     let two = two_at t c.before.before.before.before.before.before.before.before.before.before in
     let good = range_good (parts s) r.finite.vertex r.cornered.under 12 in (
-      rw (c.before.around-both.ensures, l.ensures.0, u.ensures.0)
+      rw (c.around_both-b.ensures, l.ensures.0, u.ensures.0)
           (sides_around Good _ _ (good _ _ (omega (arith, two)) (omega (arith, s.requires.1.1, most_12)) (omega (arith, s.requires.1.1))) (good _ _ (omega (arith, two)) (omega (arith, s.requires.1.1, most_12)) (omega (arith, s.requires.1.1)))),
       omega (arith, s.requires.1.1),
       omega (arith, s.requires.1.1, long),
     )
 
-put_range_same_length_2 : (t : ℕ) → put-range-lts.Need-same-length-2 (G t) (put_range_at t) put-range.Post
-put_range_same_length_2 t c = c.before.before.put-inner.auto.0 ∙ (c.before.before.before.before.before.before.before.put-range2.auto.1.0 ∙ c.before.before.before.before.before.before.before.before.before.before.before.put-range.auto.1.0)
+put_range_same_length_2 : (t : ℕ) → put-range-lts.Need-shape_of-out (G t) (put_range_at t) put-range.Post
+put_range_same_length_2 t c = c.put_inner.auto.out ∙ (c.put_range-upper.auto.out ∙ c.put_range-lower.auto.1.0)
 
-put_range_returns_2 : (t : ℕ) → put-range-lts.Need-returns-2 (G t) (put_range_at t) put-range.Post
+put_range_returns_2 : (t : ℕ) → put-range-lts.Need-returns (G t) (put_range_at t) put-range.Post
 put_range_returns_2 t c =
     let s = c.before.before.before.before.before.before.before.before.before.before.before.before.before.before.before.before in
-    let l = c.before.before.before.before.before.before.before.before.before.before.before.put-range in
-    let u = c.before.before.before.before.before.before.before.put-range2 in
+    let l = c.put_range-lower in
+    let u = c.put_range-upper in
     inner_written (parts s) s.args.out.now s.args.start s.args.from s.args.n s.args.at (two_at t c.before.before.before.before.before.before.before.before.before.before.before.before.before) (omega (arith, s.requires.1.1))
-    l.ensures u.ensures c.before.before.before.before.around-both.ensures c.before.before.put-inner.ensures
+    l.ensures u.ensures c.around_both-b.ensures c.put_inner.ensures
 
 pub +put_range_spec : {M : Type 1} → statement M
 +put_range_spec = close μ_put_range λ t. put-range-lts.spec (G t)

@@ -10,16 +10,16 @@ use Rattle.planting.proofs.Order.{plain_finite}
 use Rattle.planting.proofs.coordinate.Statement.{statement}
 use Rattle.planting.proofs.coordinate.Tie as tie
 
-float_of_bits_requires : tie.Need-float-of-bits-requires
+float_of_bits_requires : tie.Need-float_of_bits-requires
 float_of_bits_requires c κs =
-    let w = c.before.word_of_lem in
+    let w = c.word_of-word in
     let s = c.before.before.before in
     let read : finite (of_bits binary32 w.result) ≡ true = vertex_finite _ _ _ _ s.requires.0.finite s.requires.1 s.requires.2 w.ensures in
-    let made : finite (of_bits binary32 c.plain_of_lem.result) ≡ true = rw c.plain_of_lem.ensures (plain_finite w.result read) in
+    let made : finite (of_bits binary32 c.plain_of-plain.result) ≡ true = rw c.plain_of-plain.ensures (plain_finite w.result read) in
     search (read, made)
 
 returns : tie.Need-returns
-returns c = rw (c.float-of-bits.ensures, c.before.plain_of_lem.ensures, c.before.before.word_of_lem.ensures)
+returns c = rw (c.float_of_bits.ensures, c.plain_of-plain.ensures, c.word_of-word.ensures)
 
 pub coordinate_spec : {M : Type 1} → statement M
-coordinate_spec = tie.close (tie.spec (λ c κs. (c.before.requires.0.right, omega arith, c.before.requires.1, c.before.requires.2)) (search rules) float_of_bits_requires returns)
+coordinate_spec = tie.close (tie.spec (λ c κs. (c.requires.0.right, omega arith, c.requires.1, c.requires.2)) (search rules) float_of_bits_requires returns)

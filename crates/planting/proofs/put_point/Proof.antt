@@ -5,21 +5,21 @@ use Rattle.planting.proofs.Writing.{three_words}
 use Rattle.planting.proofs.put_point.Statement.{statement}
 use Rattle.planting.proofs.put_point.Tie as tie
 
-float_to_bits_a : tie.Need-float-to-bits-a
-float_to_bits_a c = finite_number _ c.before.requires.0.finite
+float_to_bits_a : tie.Need-float_to_bits-a
+float_to_bits_a c = finite_number _ c.requires.0.finite
 
-float_to_bits_b : tie.Need-float-to-bits-b
-float_to_bits_b c = finite_number _ c.before.requires.1.finite
+float_to_bits_b : tie.Need-float_to_bits-b
+float_to_bits_b c = finite_number _ c.requires.1.finite
 
-float_to_bits_c : tie.Need-float-to-bits-c
-float_to_bits_c c = finite_number _ c.before.requires.2.finite
+float_to_bits_c : tie.Need-float_to_bits-c
+float_to_bits_c c = finite_number _ c.requires.2.finite
 
 returns : tie.Need-returns
 returns c =
     let three = c.before.before in
     let two = three.before.before.before.before in
     let one = two.before.before.before.before in
-    three_words _ _ _ _ _ one.put-u32.ensures two.put-u322.ensures three.put-u323.ensures
+    three_words _ _ _ _ _ one.put_u32.ensures two.put_u32-2.ensures three.put_u32-3.ensures
 
 pub put_point_spec : {M : Type 1} → statement M
 put_point_spec =
