@@ -1,14 +1,14 @@
 -- The plain list alone: what every list that a run of calls makes has, and that an edit and an undo keep it. Assumes nothing.
 use mathlib.Core.Path.{◌≡◌, ap}
 use mathlib.Core.Bool.{true, false, ◌&&◌}
-use Prim.Native.Nat.{ℕ, suc, ◌+◌, ◌-◌, ◌/◌, ◌≤◌, ◌<◌}
+use Prim.Native.Nat.{ℕ, suc, ◌/◌, ◌≤◌, ◌<◌}
 use mathlib.Core.List.{List, [], ◌∷◌, ◌++◌}
 use native.Mathlib.Omega.{arith}
 use native.Mathlib.Decide.{dec_lt, ℕ_discrete}
 use lib.Dec.{eqb, ltb}
 use lib.ListN.{length}
 use borrow.Author.Tests.{eq-eqb, ne_eqb, lt-ltb, le-ltb, eqb-false}
-use Rattle.verdict.specs.Verdict.{accepted, ◌then◌}
+use Rattle.verdict.specs.Verdict.{accepted}
 use Rattle.verdict.specs.Lists.{tally}
 use Rattle.verdict.proofs.Bools.{clash, decided, true_and, and_false}
 use Rattle.verdict.proofs.Lists.{tally_none}

@@ -9,7 +9,6 @@ use native.Mathlib.Omega.{arith}
 use native.Mathlib.Decide.{dec_lt}
 use lib.ListN.{length}
 use borrow.Author.Tests.{le-ltb}
-use Rattle.verdict.specs.Verdict.{◌then◌}
 use Rattle.verdict.specs.declared.Answer.{Answer}
 use Rattle.verdict.proofs.Bools.{decided}
 use Rattle.verdict.proofs.Verdict.{then_both, passed}

@@ -20,7 +20,7 @@ use Rattle.wire.proofs.Put.{length_put}
 use Rattle.record.specs.declared.Rec.{Rec}
 use Rattle.record.specs.Record.{size, record_bytes}
 use Rattle.record.proofs.Records.{record_at_put, record_at_below}
-use Rattle.laying.specs.Kind.{Kind, lay, fits}
+use Rattle.laying.specs.Kind.{Kind, lay}
 use Rattle.journal.specs.Wish.{Edit, wish_of}
 use Rattle.journal.specs.Lawful.{Lawful, Fits}
 use Rattle.holding.specs.Held.{listed, stored, is_of, same_field, other, held, latest, blocked}

@@ -4,7 +4,6 @@ use mathlib.Core.Path.{◌≡◌, ap, ◌∙◌}
 use Prim.Native.Nat.{ℕ}
 use native.Mathlib.Omega.{arith}
 use borrow.Author.Tests.{eq-eqb}
-use Rattle.verdict.specs.Verdict.{◌then◌}
 use Rattle.verdict.specs.declared.Answer.{Answer}
 use Rattle.wire.proofs.Numbers.{put_back}
 use Rattle.laying.specs.Kind.{Kind, lay}

@@ -5,7 +5,7 @@ use native.Mathlib.Omega.{arith}
 use mathlib.Core.Path.{◌≡◌, refl, sym, subst}
 use mathlib.Core.Bool.{true}
 use lib.Dec.{leb}
-use lib.Ieee.{Float, fits, binary32}
+use lib.Ieee.{Float, binary32}
 use lib.Ieee.Bits.{of_bits-fits}
 use borrow.Author.Tests.{leb-true, leb-false}
 use Rattle.verdict.proofs.Bools.{test}

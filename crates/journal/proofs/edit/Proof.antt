@@ -25,58 +25,58 @@ there c = lent c.args.floor.now c.args.journal.now c.args.f
 abbrev wish : (c : tie.Start) → Wish
 wish c = asked c.args.tag c.args.place c.args.ok c.args.new
 
-held_by_requires : tie.Need-held-by-requires
-held_by_requires c κs = few_room _ _ (open_met area_floor _ _ _ _ c.before.before.before.before.requires).common.few
+held_by_requires : tie.Need-held_by-held-requires
+held_by_requires c κs = few_room _ _ (open_met area_floor _ _ _ _ c.requires).common.few
 
 -- 25 is asked of what the bench holds
-by_held : (c : tie.After-is-full) → let s = c.before.before.before.before.before.before in c.is_full.result ≡ is_full s.args.bench (there s)
+by_held : (c : tie.After-is_full) → let s = c.before.before.before.before.before in c.is_full.result ≡ is_full s.args.bench (there s)
 by_held c =
-    let a = c.before.before.before.before.before.before.args in
-    c.is_full.ensures ∙ ap (λ (n : ℕ). full (length a.journal.now) a.f n) c.before.held_by.ensures
+    let a = c.args in
+    c.is_full.ensures ∙ ap (λ (n : ℕ). full (length a.journal.now) a.f n) c.held_by-held.ensures
 
 -- what the code has worked out is the verdict
-verdict_is : (c : tie.After-then-rule) → let s = c.before.before.before.before.before.before.before in
-    c.then_rule.result ≡ edit_verdict area_floor s.args.bench (wish s) (there s)
+verdict_is : (c : tie.After-then_rule-so) → let s = c.before.before.before.before.before.before in
+    c.then_rule-so.result ≡ edit_verdict area_floor s.args.bench (wish s) (there s)
 verdict_is c =
-    let s = c.before.before.before.before.before.before.before in
-    c.then_rule.ensures
-    ∙ ap₂ (λ (x : Answer) (t : Bool). x then rule 25 t s.args.place) c.before.before.before.before.first-rule.ensures (by_held c.before)
+    let s = c.before.before.before.before.before.before in
+    c.then_rule-so.ensures
+    ∙ ap₂ (λ (x : Answer) (t : Bool). x then rule 25 t s.args.place) c.first_rule-own.ensures (by_held c.before)
     ∙ sym (open_next area_floor s.args.bench (wish s) (there s) s.requires)
 
-returns : tie.Need-returns
-returns c = late_stops area_floor _ _ _ _ (verdict_is c.before.before.before) _ c.before.if1.true c.stop.ensures
+returns : tie.Need-returns-then-so-ne0
+returns c = late_stops area_floor _ _ _ _ (verdict_is c.before.before.before) _ c.if-so-ne0.true c.stop.ensures
 
 -- there is a place, and room for the record
-opened : (c : tie.Else1) → let s = c.before.before.before.before.before.before.before.before.before in
+opened : (c : tie.Else-so-ne0) → let s = c.before.before.before.before.before.before.before.before in
     OpenMet area_floor s.args.bench s.args.tag s.args.place (there s)
-opened c = open_met area_floor _ _ _ _ c.before.before.before.before.before.before.before.before.before.requires
+opened c = open_met area_floor _ _ _ _ c.requires
 
-space : (c : tie.Else1) → let a = c.before.before.before.before.before.before.before.before.before.args in size * (a.f + 1) ≤ length a.journal.now
+space : (c : tie.Else-so-ne0) → let a = c.args in size * (a.f + 1) ≤ length a.journal.now
 space c =
-    let r = c.before.before.then_rule in
-    let z = sym (ap (λ (x : Answer). x.number) r.ensures) ∙ c.if1.false in
-    let a = c.before.before.before.before.before.before.before.before.before.args in
+    let r = c.then_rule-so in
+    let z = sym (ap (λ (x : Answer). x.number) r.ensures) ∙ c.if-so-ne0.false in
+    let a = c.args in
     space_met (length a.journal.now) a.f _ (opened c).common.few (sym (by_held c.before.before.before) ∙ unbroken 24 _ a.place (passed _ _ z).1)
 
-cast_write : tie.Need-overflow-cast-write
+cast_write : tie.Need-overflow_cast-bench
 cast_write c = omega (arith, (opened c.before.before).common.owner)
 
 write_requires : tie.Need-write-requires
 write_requires c κs = let o = opened c.before.before in (o.common.right, o.inside, space c.before.before)
 
-add_f : tie.Need-overflow-add-t12
+add_f : tie.Need-overflow_add-result
 add_f c =
     let i = c.before.before.before.before.before.before.before in
-    omega (arith, (opened i).common.few, fit_most (length i.before.before.before.before.before.before.before.before.before.args.journal.now))
+    omega (arith, (opened i).common.few, fit_most (length i.args.journal.now))
 
-returns_2 : tie.Need-returns-2
+returns_2 : tie.Need-returns
 returns_2 c =
     let at-write = c.before.before.before.before in
     let at_if1 = at-write.before.before.before in
     let at_rules = at_if1.before.before in
-    let s = at_rules.before.before.before.before.before.before.before in
+    let s = at_rules.before.before.before.before.before.before in
     let w = at-write.write.ensures in
-    rw (w.0, w.1) (edit_does area_floor s.args.bench (wish s) (there s) _ (verdict_is at_rules) at_if1.if1.false)
+    rw (w.0, w.1) (edit_does area_floor s.args.bench (wish s) (there s) _ (verdict_is at_rules) at_if1.if-so-ne0.false)
 
 pub edit_spec : {M : Type 1} → statement M
 edit_spec =

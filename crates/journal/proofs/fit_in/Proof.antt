@@ -5,11 +5,11 @@ use Rattle.journal.specs.Step.{fit_in}
 use Rattle.journal.proofs.fit_in.Statement.{statement}
 use Rattle.journal.proofs.fit_in.Tie as tie
 
-returns : tie.Need-returns
+returns : tie.Need-returns-then-n-gt-MOST_RECORDS
 unfolding fit_in
 returns c = omega arith
 
-returns_2 : tie.Need-returns-2
+returns_2 : tie.Need-returns
 unfolding fit_in
 returns_2 c = omega arith
 

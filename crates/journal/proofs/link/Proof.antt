@@ -14,32 +14,32 @@ use Rattle.journal.proofs.link.Statement.{statement}
 use Rattle.journal.proofs.link.Tie as tie
 
 -- what is asked before the old word is read
-opened : (c : tie.After-open-verdict) → let a = c.before.before.before.before.args in c.open-verdict.result ≡ open_verdict area_floor a.bench 2 a.entry (lent a.floor.now a.journal.now a.f)
+opened : (c : tie.After-open_verdict-so) → let a = c.args in c.open_verdict-so.result ≡ open_verdict area_floor a.bench 2 a.entry (lent a.floor.now a.journal.now a.f)
 unfolding open_verdict common_verdict
-opened c = c.open-verdict.ensures
+opened c = c.open_verdict-so.ensures
 
-accepts : (c : tie.Else1) → let a = c.before.before.before.before.before.before.args in (open_verdict area_floor a.bench 2 a.entry (lent a.floor.now a.journal.now a.f)).number ≡ 0
-accepts c = ap (λ (x : Answer). x.number) (sym (opened c.before.before)) ∙ c.if1.false
+accepts : (c : tie.Else-so-ne0) → let a = c.args in (open_verdict area_floor a.bench 2 a.entry (lent a.floor.now a.journal.now a.f)).number ≡ 0
+accepts c = ap (λ (x : Answer). x.number) (sym (opened c.before.before)) ∙ c.if-so-ne0.false
 
-returns : tie.Need-returns
+returns : tie.Need-returns-then-so-ne0
 unfolding step
-returns c = edit_stops area_floor _ _ _ _ _ (opened c.before.before.before) c.before.if1.true c.stop.ensures
+returns c = edit_stops area_floor _ _ _ _ _ (opened c.before.before.before) c.if-so-ne0.true c.stop.ensures
 
 edit_requires : tie.Need-edit-requires
 edit_requires c κs = accepts c.before.before.before.before
 
-returns_2 : tie.Need-returns-2
+returns_2 : tie.Need-returns
 unfolding step
 returns_2 c =
     let at-edit = c.before.before.before.before in
     let at-transition-word = at-edit.before.before.before in
     let at-may-link = at-transition-word.before in
-    let s = at-may-link.before.before.before.before.before.before.before in
+    let s = at-may-link.before.before.before.before.before.before in
     let a = s.args in
     let e = to_z-of_z w32 a.transition s.ranges.transition in
     at-edit.edit.ensures
     ∙ edit_as area_floor _ (link_wish a.entry a.transition) _ _ _
-    (at-may-link.may-link.ensures ∙ ap may_link e) (λ h. at-transition-word.transition-word.ensures ∙ ap transition_word e)
+    (at-may-link.may_link-ok.ensures ∙ ap may_link e) (λ h. at-transition-word.transition_word-word.ensures ∙ ap transition_word e)
 
 pub link_spec : {M : Type 1} → statement M
 link_spec = tie.close (tie.spec (search rules) (search rules) (search rules) returns (search rules) (search rules) edit_requires (search rules) (search rules) returns_2)

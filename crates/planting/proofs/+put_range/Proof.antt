@@ -122,7 +122,7 @@ put_range_put_inner_requires t c κs =
     let r = s.requires.1.0 in
     let l = c.put_range-lower in
     let u = c.put_range-upper in
-    let long : length u.new.out ≡ length s.args.out.now = u.auto.out ∙ l.auto.1.0 in
+    let long : length u.new.out ≡ length s.args.out.now = u.auto.out ∙ l.auto.out in
     let two = two_at t c.before.before.before.before.before.before.before.before.before.before in
     let good = range_good (parts s) r.finite.vertex r.cornered.under 12 in (
       rw (c.around_both-b.ensures, l.ensures.0, u.ensures.0)
@@ -132,7 +132,7 @@ put_range_put_inner_requires t c κs =
     )
 
 put_range_same_length_2 : (t : ℕ) → put-range-lts.Need-shape_of-out (G t) (put_range_at t) put-range.Post
-put_range_same_length_2 t c = c.put_inner.auto.out ∙ (c.put_range-upper.auto.out ∙ c.put_range-lower.auto.1.0)
+put_range_same_length_2 t c = c.put_inner.auto.out ∙ (c.put_range-upper.auto.out ∙ c.put_range-lower.auto.out)
 
 put_range_returns_2 : (t : ℕ) → put-range-lts.Need-returns (G t) (put_range_at t) put-range.Post
 put_range_returns_2 t c =

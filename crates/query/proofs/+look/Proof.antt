@@ -4,7 +4,6 @@ use native.Mathlib.Omega.{arith}
 use mathlib.Core.Path.{◌≡◌, sym, ◌∙◌}
 use mathlib.Core.Bool.{true}
 use mathlib.Core.List.{List}
-use borrow.Author.Tests.{not-true, not-false}
 use borrow.Fn.Kinds.{In}
 use borrow.Fn.PlainCycle.{Measures, is, falls, and}
 use Rattle.tables.specs.Parts.{parts_of}
@@ -51,45 +50,45 @@ abbrev file : {t : ℕ} → look-lts.Start (G t) (look_at t) look.Post → List 
 file s = s.args.bytes.now
 
 -- past both tests the walk goes on
-on_at : (t : ℕ) (c : look-lts.Else2 (G t) (look_at t) look.Post)
-    → (shape (parts_of (file c.before.before.before.before)) c.before.before.before.before.args.at.x c.before.before.before.before.args.at.y).inner c.before.before.before.before.args.n ≡ true
-on_at t c = sym c.before.goes_on.ensures ∙ not-false _ c.if2.false
+on_at : (t : ℕ) (c : look-lts.Else-not-goes_on (G t) (look_at t) look.Post)
+    → (shape (parts_of (file c.before.before.before.before)) c.args.at.x c.args.at.y).inner c.args.n ≡ true
+on_at t c = sym c.goes_on.ensures ∙ c.if-not-goes_on.false
 
 look_own_requires : (t : ℕ) → look-lts.Need-own-requires (G t) (look_at t) look.Post
-look_own_requires t c κs = c.before.before.requires.1.0
+look_own_requires t c κs = c.requires.1.0
 
-look_returns : (t : ℕ) → look-lts.Need-returns (G t) (look_at t) look.Post
+look_returns : (t : ℕ) → look-lts.Need-returns-then-depth-eq0 (G t) (look_at t) look.Post
 look_returns t c =
     let s = c.before.before.before in
     let pre = s.requires.1.0 in
-    at_end (file s) pre.0 s.args.at.x s.args.at.y s.args.n pre.2 s.args.depth _ _ c.own.ensures.0 c.own.ensures.1 c.before.if1.true
+    at_end (file s) pre.0 s.args.at.x s.args.at.y s.args.n pre.2 s.args.depth _ _ c.own.ensures.0 c.own.ensures.1 c.if-depth-eq0.true
 
-look_goes_on_requires : (t : ℕ) → look-lts.Need-goes-on-requires (G t) (look_at t) look.Post
-look_goes_on_requires t c κs = c.before.before.requires.1.0
+look_goes_on_requires : (t : ℕ) → look-lts.Need-goes_on-requires (G t) (look_at t) look.Post
+look_goes_on_requires t c κs = c.requires.1.0
 
-look_own_requires_2 : (t : ℕ) → look-lts.Need-own-requires-2 (G t) (look_at t) look.Post
-look_own_requires_2 t c κs = c.before.before.before.before.requires.1.0
+look_own_requires_2 : (t : ℕ) → look-lts.Need-own-requires-then-not-goes_on (G t) (look_at t) look.Post
+look_own_requires_2 t c κs = c.requires.1.0
 
-look_returns_2 : (t : ℕ) → look-lts.Need-returns-2 (G t) (look_at t) look.Post
+look_returns_2 : (t : ℕ) → look-lts.Need-returns-then-not-goes_on (G t) (look_at t) look.Post
 look_returns_2 t c =
     let s = c.before.before.before.before.before in
     let pre = s.requires.1.0 in
-    at_stop (file s) pre.0 s.args.at.x s.args.at.y s.args.n pre.2 s.args.depth _ _ c.own2.ensures.0 c.own2.ensures.1
-    (sym c.before.before.goes_on.ensures ∙ not-true _ c.before.if2.true)
+    at_stop (file s) pre.0 s.args.at.x s.args.at.y s.args.n pre.2 s.args.depth _ _ c.own-then-not-goes_on.ensures.0 c.own-then-not-goes_on.ensures.1
+    (sym c.goes_on.ensures ∙ c.if-not-goes_on.true)
 
-look_left_of_requires : (t : ℕ) → look-lts.Need-left-of-requires (G t) (look_at t) look.Post
-look_left_of_requires t c κs = let pre = c.before.before.before.before.requires.1.0 in (pre.0.floor.header, pre.2)
+look_left_of_requires : (t : ℕ) → look-lts.Need-left_of-l-requires (G t) (look_at t) look.Post
+look_left_of_requires t c κs = let pre = c.requires.1.0 in (pre.0.floor.header, pre.2)
 
-look_sub_look : (t : ℕ) → look-lts.Need-overflow-sub-look (G t) (look_at t) look.Post
+look_sub_look : (t : ℕ) → look-lts.Need-overflow_sub-depth (G t) (look_at t) look.Post
 look_sub_look t c = omega arith
 
-look_look_requires : (t : ℕ) → look-lts.Need-look-requires (G t) (look_at t) look.Post
+look_look_requires : (t : ℕ) → look-lts.Need-look-a-requires (G t) (look_at t) look.Post
 look_look_requires t c κs =
     let e = c.before in
     let s = e.before.before.before.before in
     let pre = s.requires.1.0 in
-    let more = e.before.before.if1.false in
-    let l = c.left-of.ensures in (
+    let more = e.if-depth-eq0.false in
+    let l = c.left_of-l.ensures in (
       omega arith,
       (
         (pre.0, pre.1, left_under (file s) pre.0 s.args.at.x s.args.at.y s.args.n pre.2 (on_at t e) _ l),
@@ -97,19 +96,19 @@ look_look_requires t c κs =
       ),
     )
 
-look_right_of_requires : (t : ℕ) → look-lts.Need-right-of-requires (G t) (look_at t) look.Post
-look_right_of_requires t c κs = let pre = c.before.before.before.before.before.before.requires.1.0 in (pre.0.floor.header, pre.2)
+look_right_of_requires : (t : ℕ) → look-lts.Need-right_of-r-requires (G t) (look_at t) look.Post
+look_right_of_requires t c κs = let pre = c.requires.1.0 in (pre.0.floor.header, pre.2)
 
-look_sub_look_2 : (t : ℕ) → look-lts.Need-overflow-sub-look-2 (G t) (look_at t) look.Post
+look_sub_look_2 : (t : ℕ) → look-lts.Need-overflow_sub-depth-2 (G t) (look_at t) look.Post
 look_sub_look_2 t c = omega arith
 
-look_look_requires_2 : (t : ℕ) → look-lts.Need-look-requires-2 (G t) (look_at t) look.Post
+look_look_requires_2 : (t : ℕ) → look-lts.Need-look-b-requires (G t) (look_at t) look.Post
 look_look_requires_2 t c κs =
     let e = c.before.before.before in
     let s = e.before.before.before.before in
     let pre = s.requires.1.0 in
-    let more = e.before.before.if1.false in
-    let r = c.right_of.ensures in (
+    let more = e.if-depth-eq0.false in
+    let r = c.right_of-r.ensures in (
       omega arith,
       (
         (pre.0, pre.1, right_under (file s) pre.0 s.args.at.x s.args.at.y s.args.n pre.2 (on_at t e) _ r),
@@ -123,18 +122,18 @@ look_joined_requires t c κs =
     let e = d.before in
     let s = e.before.before.before.before in
     let pre = s.requires.1.0 in
-    few_seen (file s) pre.0 s.args.at.x s.args.at.y s.args.n pre.2 (on_at t e) s.args.depth e.before.before.if1.false s.requires.1.1
-    _ _ _ _ _ _ d.left-of.ensures c.before.right_of.ensures c.before.before.look.ensures c.look2.ensures
+    few_seen (file s) pre.0 s.args.at.x s.args.at.y s.args.n pre.2 (on_at t e) s.args.depth e.if-depth-eq0.false s.requires.1.1
+    _ _ _ _ _ _ d.left_of-l.ensures c.right_of-r.ensures c.look-a.ensures c.look-b.ensures
 
-look_returns_3 : (t : ℕ) → look-lts.Need-returns-3 (G t) (look_at t) look.Post
+look_returns_3 : (t : ℕ) → look-lts.Need-returns (G t) (look_at t) look.Post
 look_returns_3 t c =
     let f = c.before in
     let d = f.before.before.before in
     let e = d.before in
     let s = e.before.before.before.before in
     let pre = s.requires.1.0 in
-    at_go (file s) pre.0 s.args.at.x s.args.at.y s.args.n pre.2 (on_at t e) s.args.depth e.before.before.if1.false s.requires.1.1
-    _ _ _ _ _ _ d.left-of.ensures f.before.right_of.ensures f.before.before.look.ensures f.look2.ensures
+    at_go (file s) pre.0 s.args.at.x s.args.at.y s.args.n pre.2 (on_at t e) s.args.depth e.if-depth-eq0.false s.requires.1.1
+    _ _ _ _ _ _ d.left_of-l.ensures f.right_of-r.ensures f.look-a.ensures f.look-b.ensures
     _ _ c.joined.ensures.0 c.joined.ensures.1
 
 pub +look_spec : {M : Type 1} → statement M

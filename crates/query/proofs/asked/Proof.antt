@@ -11,17 +11,17 @@ use Rattle.query.proofs.asked.Statement.{statement}
 use Rattle.query.proofs.asked.Tie as tie
 
 -- the verdict of x and y as they were handed in
-judged : (c : tie.After-point-verdict) → c.point-verdict.result ≡ rules29to30 (parts_of c.before.before.args.bytes.now) c.before.before.args.x c.before.before.args.y
-judged c = let s = c.before.before in rw (← to_z-of_z w64 _ s.ranges.x, ← to_z-of_z w64 _ s.ranges.y) c.point-verdict.ensures
+judged : (c : tie.After-point_verdict-a) → c.point_verdict-a.result ≡ rules29to30 (parts_of c.args.bytes.now) c.args.x c.args.y
+judged c = let s = c.before.before in rw (← to_z-of_z w64 _ s.ranges.x, ← to_z-of_z w64 _ s.ranges.y) c.point_verdict-a.ensures
 
-returns : tie.Need-returns
+returns : tie.Need-returns-then-a-ne0
 returns c =
     let e = c.before.before.before in
     c.refused.ensures ∙ refuses _ _ _ _ _ (search rules) (judged e)
 
 -- past the test nothing is refused
-unbroken : (c : tie.Else1) → (rules29to30 (parts_of c.before.before.before.before.args.bytes.now) c.before.before.before.before.args.x c.before.before.before.before.args.y).number ≡ 0
-unbroken c = ap (λ (a : Answer). a.number) (sym (judged c.before.before)) ∙ c.if1.false
+unbroken : (c : tie.Else-a-ne0) → (rules29to30 (parts_of c.args.bytes.now) c.args.x c.args.y).number ≡ 0
+unbroken c = ap (λ (a : Answer). a.number) (sym (judged c.before.before)) ∙ c.if-a-ne0.false
 
 walked_requires : tie.Need-walked-requires
 walked_requires c κs =
@@ -29,7 +29,7 @@ walked_requires c κs =
     let z = unbroken c in
     (ready _ s.requires s.args.x s.args.y z, read_within (near_x _ s.args.x s.args.y z) tt, read_within (near_y _ s.args.x s.args.y z) tt)
 
-returns_2 : tie.Need-returns-2
+returns_2 : tie.Need-returns
 returns_2 c =
     let s = c.before.before.before.before.before in
     rw (to_z-of_z w64 _ s.ranges.x, to_z-of_z w64 _ s.ranges.y) at c.walked.ensures ∙ accepts _ s.args.x s.args.y (unbroken c.before)

@@ -11,20 +11,20 @@ use Rattle.query.proofs.flat_corner.Tie as tie
 under : (c : tie.Start) → corner (parts_of c.args.bytes.now) c.args.f c.args.c < (parts_of c.args.bytes.now).vertices
 under c = c.requires.0.floor.mesh.cornered.under c.args.f c.args.c c.requires.1 c.requires.2
 
-corner_of_requires : tie.Need-corner-of-requires
-corner_of_requires c κs = let h = c.before.requires in (h.0.floor.header, h.1, h.2)
+corner_of_requires : tie.Need-corner_of-v-requires
+corner_of_requires c κs = let h = c.requires in (h.0.floor.header, h.1, h.2)
 
-coordinate_requires : tie.Need-coordinate-requires
-coordinate_requires c κs = let s = c.before.before in (s.requires.0, rw c.corner-of.ensures.0 (under s), omega arith)
+coordinate_requires : tie.Need-coordinate-x-requires
+coordinate_requires c κs = let s = c.before.before in (s.requires.0, rw c.corner_of-v.ensures.0 (under s), omega arith)
 
-coordinate_requires_2 : tie.Need-coordinate-requires-2
-coordinate_requires_2 c κs = let s = c.before.before.before in (s.requires.0, rw c.before.corner-of.ensures.0 (under s), omega arith)
+coordinate_requires_2 : tie.Need-coordinate-y-requires
+coordinate_requires_2 c κs = let s = c.before.before.before in (s.requires.0, rw c.corner_of-v.ensures.0 (under s), omega arith)
 
 returns : tie.Need-returns
 returns c =
-    let v = c.before.before.corner-of.ensures.0 in
-    let x = c.before.coordinate.ensures in
-    let y = c.coordinate2.ensures in
+    let v = c.corner_of-v.ensures.0 in
+    let x = c.coordinate-x.ensures in
+    let y = c.coordinate-y.ensures in
     ((corner_is _ _ _ 0 _ v x.0 x.1, corner_is _ _ _ 1 _ v y.0 y.1), (read_within x.1 tt, read_within y.1 tt))
 
 pub flat_corner_spec : {M : Type 1} → statement M

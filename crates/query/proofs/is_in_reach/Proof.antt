@@ -1,7 +1,6 @@
 -- x, then y. Assumes nothing.
 use borrow.Author.Rules.{rules}
 use mathlib.Core.Path.{◌≡◌, sym, ap, ◌∙◌}
-use borrow.Author.Tests.{not-true, not-false}
 use mir.Syntax.{w64}
 use mir.ValLaws.{to_z-of_z}
 use Rattle.grid.specs.Grid.{within}
@@ -10,17 +9,17 @@ use Rattle.query.proofs.is_in_reach.Statement.{statement}
 use Rattle.query.proofs.is_in_reach.Tie as tie
 
 -- what the first test says
-first : (c : tie.After-is-within) → c.is_Within.result ≡ within 65536 c.before.args.x
-first c = c.is_Within.ensures ∙ ap (within 65536) (to_z-of_z w64 _ c.before.ranges.x)
+first : (c : tie.After-is_within) → c.is_within.result ≡ within 65536 c.args.x
+first c = c.is_within.ensures ∙ ap (within 65536) (to_z-of_z w64 _ c.ranges.x)
 
-returns : tie.Need-returns
-returns c = beyond c.before.before.args.x c.before.before.args.y (sym (first c.before) ∙ not-true _ c.if1.true)
+returns : tie.Need-returns-then-not-is_within
+returns c = beyond c.args.x c.args.y (sym (first c.before) ∙ c.if-not-is_within.true)
 
-returns_2 : tie.Need-returns-2
+returns_2 : tie.Need-returns
 returns_2 c =
     let s = c.before.before.before in
-    c.is-within2.ensures ∙ ap (within 65536) (to_z-of_z w64 _ s.ranges.y)
-    ∙ by_second s.args.x s.args.y (sym (first c.before.before) ∙ not-false _ c.before.if1.false)
+    c.is_within-2.ensures ∙ ap (within 65536) (to_z-of_z w64 _ s.ranges.y)
+    ∙ by_second s.args.x s.args.y (sym (first c.before.before) ∙ c.if-not-is_within.false)
 
 pub is_in_reach_spec : {M : Type 1} → statement M
 is_in_reach_spec = tie.close (tie.spec (search rules) returns (search rules) returns_2)

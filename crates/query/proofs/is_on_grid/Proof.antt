@@ -5,7 +5,7 @@ use Rattle.query.proofs.is_on_grid.Statement.{statement}
 use Rattle.query.proofs.is_on_grid.Tie as tie
 
 returns : tie.Need-returns
-returns c = coordinate_on _ _ _ _ _ c.before.word_of_lem.ensures c.scaled-of.ensures
+returns c = coordinate_on _ _ _ _ _ c.word_of.ensures c.scaled_of-z.ensures
 
 pub is_on_grid_spec : {M : Type 1} → statement M
 is_on_grid_spec = tie.close (tie.spec (search rules) (search rules) returns)

@@ -4,10 +4,10 @@ use native.Mathlib.Omega.{arith}
 use Rattle.query.proofs.joined.Statement.{statement}
 use Rattle.query.proofs.joined.Tie as tie
 
-returns : tie.Need-returns
+returns : tie.Need-returns-then-a-b
 returns c = (omega arith, omega arith)
 
-returns_2 : tie.Need-returns-2
+returns_2 : tie.Need-returns
 returns_2 c = (omega arith, omega arith)
 
 pub joined_spec : {M : Type 1} → statement M

@@ -10,8 +10,8 @@ use Rattle.query.specs.Rules.{rule29, rule30}
 use Rattle.query.proofs.point_verdict.Statement.{statement}
 use Rattle.query.proofs.point_verdict.Tie as tie
 
-cast_then_rule : tie.Need-overflow-cast-then-rule
-cast_then_rule c = omega (arith, c.before.count_of.ensures.1, c.before.count_of.ensures.0, lowest_within _ _ _ c.first-off-grid.ensures)
+cast_then_rule : tie.Need-overflow_cast-v
+cast_then_rule c = omega (arith, c.count_of-vertices.ensures.1, c.count_of-vertices.ensures.0, lowest_within _ _ _ c.first_off_grid-v.ensures)
 
 returns : tie.Need-returns
 unfolding rule29 rule30 rule_of_each
@@ -19,12 +19,12 @@ returns c =
     let s = c.before.before.before.before.before.before in
     rw (
       c.then_rule.ensures,
-      c.before.before.before.first-rule.ensures,
-      c.before.before.before.before.is-in-reach.ensures,
+      c.first_rule-a.ensures,
+      c.is_in_reach-near.ensures,
       to_z-of_z w64 _ s.ranges.x,
       to_z-of_z w64 _ s.ranges.y,
-      c.before.first-off-grid.ensures,
-      c.before.before.count_of.ensures.0,
+      c.first_off_grid-v.ensures,
+      c.count_of-vertices.ensures.0,
     )
     refl
 
