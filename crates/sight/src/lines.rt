@@ -39,7 +39,7 @@ pub(crate) fn find_room(layout: &[u8], starts: &[usize], n: usize, w: &[u8]) -> 
 }
 
 // The room that a word names, or n: a word that is no name names none.
-pub(crate) fn room_of_lem(layout: &[u8], starts: &[usize], n: usize, w: &[u8]) -> usize
+pub(crate) fn room_of(layout: &[u8], starts: &[usize], n: usize, w: &[u8]) -> usize
     requires { KeptEntries layout.now starts.now n }
     ensures { result ≡ room_of (kept_names layout.now starts.now n) w.now }
 {
@@ -156,7 +156,7 @@ pub(crate) fn turn(
     ensures answer { result ≡ turn_of (kept_names layout.now starts.now n) (state_of st rows.old) (words l.now) }
     ensures marks { rows.new ≡ rows_after (kept_names layout.now starts.now n) (state_of st rows.old) (words l.now) }
 {
-    let room = room_of_lem(layout, starts, n, word(l, 0));
+    let room = room_of(layout, starts, n, word(l, 0));
     let i = st.observer;
     let fault = line_fault(n, st, rows[i], room, l);
     if fault != 0 {

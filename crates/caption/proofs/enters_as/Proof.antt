@@ -5,11 +5,11 @@ use borrow.Author.Rules.{rules}
 use Rattle.caption.proofs.enters_as.Statement.{statement}
 use Rattle.caption.proofs.enters_as.Tie as tie
 
-returns : tie.Need-returns
-returns c = enters_by _ _ _ _ (sym c.before.before.before.word_count.ensures ∙ c.before.before.if1.true) c.before.word.ensures c.same_word.ensures
+returns : tie.Need-returns-then-word_count-eq4
+returns c = enters_by _ _ _ _ (sym c.word_count.ensures ∙ c.if-word_count-eq4.true) c.word.ensures c.same_word.ensures
 
-returns_2 : tie.Need-returns-2
-returns_2 c = enters_no _ _ (λ e. c.if1.false (c.before.word_count.ensures ∙ e))
+returns_2 : tie.Need-returns
+returns_2 c = enters_no _ _ (λ e. c.if-word_count-eq4.false (c.word_count.ensures ∙ e))
 
 pub enters_as_spec : {M : Type 1} → statement M
 enters_as_spec =

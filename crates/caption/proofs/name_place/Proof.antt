@@ -13,48 +13,48 @@ use Rattle.caption.proofs.PlaceLaws.{place_hit, place_next, place_none, gap_with
 use Rattle.caption.proofs.name_place.Statement.{statement}
 use Rattle.caption.proofs.name_place.Tie as tie
 
-abbrev invariant_loop : tie.invariant_loop
+abbrev invariant_loop : tie.invariant-loop-at
 invariant_loop s w at₀ at = (at ≤ length s + 1) × (name_place w 0 (lines s) ≡ name_place w at (lines (drop at s)))
 
-abbrev decreases_loop : tie.decreases_loop
+abbrev decreases_loop : tie.decreases-loop-at
 decreases_loop s w at₀ at = length s - at
 
 -- the name of the line that was found
-found : (c : tie.After-skip-gap invariant_loop decreases_loop) → let at-loop = c.before.before.before.before.before in let start = at-loop.before.before.before in (at-loop.loop.at + c.skip-gap.result ≡ name_place start.args.w.now 0 (lines start.args.s.now)) × (at-loop.loop.at + c.skip-gap.result ≤ length start.args.s.now)
+found : (c : tie.After-skip_gap invariant_loop decreases_loop) → let at-loop = c.before.before.before.before.before in let start = at-loop.before.before.before in (at-loop.loop-at.at + c.skip_gap.result ≡ name_place start.args.w.now 0 (lines start.args.s.now)) × (at-loop.loop-at.at + c.skip_gap.result ≤ length start.args.s.now)
 found c =
     let at-line-at = c.before.before.before in
     let in-loop = at-line-at.before in
     let at-loop = in-loop.before in
     let start = at-loop.before.before.before in
-    let l : c.skip-gap.result ≡ run is_gap (line_at start.args.s.now at-loop.loop.at) = c.skip-gap.ensures ∙ zero-add _ ∙ ap (run is_gap) at-line-at.line_at_lem.ensures in
-    (place_hit _ _ _ _ in-loop.loop-test.true (ap (enters_as _) (sym at-line-at.line_at_lem.ensures) ∙ sym c.before.before.enters-as.ensures ∙ c.before.if1.true) l ∙ sym at-loop.loop.invariant.1, omega (arith, gap_within start.args.s.now at-loop.loop.at (omega (arith, in-loop.loop-test.true))))
+    let l : c.skip_gap.result ≡ run is_gap (line_at start.args.s.now at-loop.loop-at.at) = c.skip_gap.ensures ∙ zero-add _ ∙ ap (run is_gap) at-line-at.line_at-l.ensures in
+    (place_hit _ _ _ _ in-loop.loop-at-test.true (ap (enters_as _) (sym at-line-at.line_at-l.ensures) ∙ sym c.enters_as.ensures ∙ c.if-enters_as.true) l ∙ sym at-loop.loop-at.invariant.1, omega (arith, gap_within start.args.s.now at-loop.loop-at.at (omega (arith, in-loop.loop-at-test.true))))
 
 -- a line ends within the text
-ends : (c : tie.After-line-end invariant_loop decreases_loop) → let at-loop = c.before.before.before.before.before in let start = at-loop.before.before.before in (at-loop.loop.at ≤ c.line-end.result) × (c.line-end.result ≤ length start.args.s.now)
-ends c = piece_within is_end _ _ _ c.line-end.ensures (omega (arith, c.before.before.before.before.loop-test.true))
+ends : (c : tie.After-line_end-at invariant_loop decreases_loop) → let at-loop = c.before.before.before.before.before in let start = at-loop.before.before.before in (at-loop.loop-at.at ≤ c.line_end-at.result) × (c.line_end-at.result ≤ length start.args.s.now)
+ends c = piece_within is_end _ _ _ c.line_end-at.ensures (omega (arith, c.loop-at-test.true))
 
-loop_holds : tie.Need-loop-init invariant_loop decreases_loop
+loop_holds : tie.Need-loop-at-init invariant_loop decreases_loop
 loop_holds c = (omega arith, refl)
 
-add_result : tie.Need-overflow-add-result invariant_loop decreases_loop
-add_result c = omega (arith, (found c).1, c.before.before.before.before.before.before.before.before.requires)
+add_result : tie.Need-overflow_add-result invariant_loop decreases_loop
+add_result c = omega (arith, (found c).1, c.requires)
 
-returns : tie.Need-returns invariant_loop decreases_loop
-returns c = ((found c).0, omega (arith, (found c).1, c.before.before.before.before.before.before.before.before.requires))
+returns : tie.Need-returns-then-enters_as invariant_loop decreases_loop
+returns c = ((found c).0, omega (arith, (found c).1, c.requires))
 
-add_at : tie.Need-overflow-add-at invariant_loop decreases_loop
-add_at c = omega (arith, ends c, c.before.before.before.before.before.before.before.before.requires)
+add_at : tie.Need-overflow_add-at invariant_loop decreases_loop
+add_at c = omega (arith, ends c, c.requires)
 
-loop_less : tie.Need-loop-smaller invariant_loop decreases_loop
-loop_less c = omega (arith, ends c, c.before.before.before.before.loop-test.true)
+loop_less : tie.Need-loop-at-smaller invariant_loop decreases_loop
+loop_less c = omega (arith, ends c, c.loop-at-test.true)
 
-loop_again : tie.Need-loop-preserved invariant_loop decreases_loop
+loop_again : tie.Need-loop-at-preserved invariant_loop decreases_loop
 loop_again c =
     let z = c.before.before.before.before.before in
-    (omega (arith, ends c), z.loop.invariant.1 ∙ place_next _ _ _ _ c.line-end.ensures c.before.before.before.before.loop-test.true (ap (enters_as _) (sym c.before.before.before.line_at_lem.ensures) ∙ sym c.before.before.enters-as.ensures ∙ c.before.if1.false))
+    (omega (arith, ends c), z.loop-at.invariant.1 ∙ place_next _ _ _ _ c.line_end-at.ensures c.loop-at-test.true (ap (enters_as _) (sym c.line_at-l.ensures) ∙ sym c.enters_as.ensures ∙ c.if-enters_as.false))
 
-returns_2 : tie.Need-returns-2 invariant_loop decreases_loop
-returns_2 c = (place_none _ _ _ c.loop-test.false ∙ sym c.before.loop.invariant.1, omega (arith, c.before.loop.invariant.0, c.before.before.before.before.requires))
+returns_2 : tie.Need-returns invariant_loop decreases_loop
+returns_2 c = (place_none _ _ _ c.loop-at-test.false ∙ sym c.loop-at.invariant.1, omega (arith, c.loop-at.invariant.0, c.requires))
 
 pub name_place_spec : {M : Type 1} → statement M
 name_place_spec =

@@ -3,7 +3,7 @@ use Rattle.layout.specs.Grammar.{names_of}
 use Rattle.layout.proofs.is_known.Statement.{statement}
 use Rattle.layout.proofs.is_known.Tie as tie
 
-is_among_requires : tie.Need-is-among-requires
+is_among_requires : tie.Need-is_among-requires
 is_among_requires c κs = let g = c.before.before.before in g.requires
 
 returns : tie.Need-returns

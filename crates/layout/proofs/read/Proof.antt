@@ -7,16 +7,16 @@ use borrow.Author.Rules.{rules}
 use Rattle.layout.proofs.read.Statement.{statement}
 use Rattle.layout.proofs.read.Tie as tie
 
-returns : tie.Need-returns
-returns c = refused_read _ _ c.before.before.before.sound-verdict.ensures c.before.if1.true _ c.refused-layout.ensures
+returns : tie.Need-returns-then-so-ne0
+returns c = refused_read _ _ c.sound_verdict-so.ensures c.if-so-ne0.true _ c.refused_layout.ensures
 
-read_lines_requires : tie.Need-read-lines-requires
-read_lines_requires c κs = sound_length _ (sym (ap (λ (a : Answer). a.number) c.before.before.sound-verdict.ensures) ∙ c.if1.false)
+read_lines_requires : tie.Need-read_lines-requires
+read_lines_requires c κs = sound_length _ (sym (ap (λ (a : Answer). a.number) c.sound_verdict-so.ensures) ∙ c.if-so-ne0.false)
 
-returns_2 : tie.Need-returns-2
+returns_2 : tie.Need-returns
 returns_2 c =
-    let so = c.before.before.before.sound-verdict.ensures in
-    found_read _ (sym (ap (λ (a : Answer). a.number) so) ∙ c.before.if1.false) _ c.read-lines.ensures (search rules)
+    let so = c.sound_verdict-so.ensures in
+    found_read _ (sym (ap (λ (a : Answer). a.number) so) ∙ c.if-so-ne0.false) _ c.read_lines.ensures (search rules)
 
 pub read_spec : {M : Type 1} → statement M
 read_spec =

@@ -24,7 +24,7 @@ abbrev put_fixed_below : ℕ → In 1 put-fixed-kinds.ps
 put_fixed_below t =
     and 1 put-fixed-kinds.ps (falls 1 put-fixed-kinds.ps ◌<◌ μ_put_fixed t) put-fixed.Pre
 
-put_fixed_returns : (t : ℕ) → put-fixed-lts.Need-returns (
+put_fixed_returns : (t : ℕ) → put-fixed-lts.Need-returns-then-k-eq0 (
   put_fixed_below t,
   put-fixed.Post,
   put-byte-reads.Asked,
@@ -33,7 +33,7 @@ put_fixed_returns : (t : ℕ) → put-fixed-lts.Need-returns (
 unfolding fixed
 put_fixed_returns t c = rw c.if-k-eq0.true (wrote_none _ _)
 
-put_fixed_sub_put_fixed : (t : ℕ) → put-fixed-lts.Need-overflow-sub-put-fixed (
+put_fixed_sub_put_fixed : (t : ℕ) → put-fixed-lts.Need-overflow_sub-k (
   put_fixed_below t,
   put-fixed.Post,
   put-byte-reads.Asked,
@@ -41,7 +41,7 @@ put_fixed_sub_put_fixed : (t : ℕ) → put-fixed-lts.Need-overflow-sub-put-fixe
 ) (put_fixed_at t) put-fixed.Post
 put_fixed_sub_put_fixed t c = search rules
 
-put_fixed_put_fixed_requires : (t : ℕ) → put-fixed-lts.Need-put-fixed-requires (
+put_fixed_put_fixed_requires : (t : ℕ) → put-fixed-lts.Need-put_fixed-e-requires (
   put_fixed_below t,
   put-fixed.Post,
   put-byte-reads.Asked,
@@ -49,7 +49,7 @@ put_fixed_put_fixed_requires : (t : ℕ) → put-fixed-lts.Need-put-fixed-requir
 ) (put_fixed_at t) put-fixed.Post
 put_fixed_put_fixed_requires t c κs = omega arith
 
-put_fixed_add_put_byte : (t : ℕ) → put-fixed-lts.Need-overflow-add-put-byte (
+put_fixed_add_put_byte : (t : ℕ) → put-fixed-lts.Need-overflow_add-v (
   put_fixed_below t,
   put-fixed.Post,
   put-byte-reads.Asked,
@@ -57,7 +57,7 @@ put_fixed_add_put_byte : (t : ℕ) → put-fixed-lts.Need-overflow-add-put-byte 
 ) (put_fixed_at t) put-fixed.Post
 put_fixed_add_put_byte t c = search rules
 
-put_fixed_cast_put_byte : (t : ℕ) → put-fixed-lts.Need-overflow-cast-put-byte (
+put_fixed_cast_put_byte : (t : ℕ) → put-fixed-lts.Need-overflow_cast-v (
   put_fixed_below t,
   put-fixed.Post,
   put-byte-reads.Asked,
@@ -65,7 +65,7 @@ put_fixed_cast_put_byte : (t : ℕ) → put-fixed-lts.Need-overflow-cast-put-byt
 ) (put_fixed_at t) put-fixed.Post
 put_fixed_cast_put_byte t c = search rules
 
-put_fixed_put_byte_requires : (t : ℕ) → put-fixed-lts.Need-put-byte-requires (
+put_fixed_put_byte_requires : (t : ℕ) → put-fixed-lts.Need-put_byte-requires (
   put_fixed_below t,
   put-fixed.Post,
   put-byte-reads.Asked,
@@ -76,7 +76,7 @@ put_fixed_put_byte_requires t c κs =
     let a = e.args in
     omega (arith, e.put_fixed-e.ensures.next, length_fixed (a.k - 1) (a.v / 10), e.requires)
 
-put_fixed_same_length : (t : ℕ) → put-fixed-lts.Need-same-length (
+put_fixed_same_length : (t : ℕ) → put-fixed-lts.Need-shape_of-out (
   put_fixed_below t,
   put-fixed.Post,
   put-byte-reads.Asked,
@@ -84,7 +84,7 @@ put_fixed_same_length : (t : ℕ) → put-fixed-lts.Need-same-length (
 ) (put_fixed_at t) put-fixed.Post
 put_fixed_same_length t c = search rules
 
-put_fixed_returns_2 : (t : ℕ) → put-fixed-lts.Need-returns-2 (
+put_fixed_returns_2 : (t : ℕ) → put-fixed-lts.Need-returns (
   put_fixed_below t,
   put-fixed.Post,
   put-byte-reads.Asked,

@@ -4,11 +4,11 @@ use borrow.Author.Rules.{rules}
 use Rattle.rooms.proofs.room_name.Statement.{statement}
 use Rattle.rooms.proofs.room_name.Tie as tie
 
-returns : tie.Need-returns
-returns c = kept_some_name _ _ _ _ _ c.before.before.before.if1.true c.before.line_at_lem.ensures c.word.ensures
+returns : tie.Need-returns-then-k-starts
+returns c = kept_some_name _ _ _ _ _ c.if-k-starts.true c.line_at.ensures c.word.ensures
 
-returns_2 : tie.Need-returns-2
-returns_2 c = kept_no_name _ _ _ c.before.if1.false
+returns_2 : tie.Need-returns
+returns_2 c = kept_no_name _ _ _ c.if-k-starts.false
 
 pub room_name_spec : {M : Type 1} → statement M
 room_name_spec =

@@ -8,33 +8,33 @@ use borrow.Author.Rules.{rules}
 use Rattle.sight.proofs.look.Statement.{statement}
 use Rattle.sight.proofs.look.Tie as tie
 
-returns : tie.Need-returns
+returns : tie.Need-returns-then-r-ne0
 returns c =
     let i = c.before in
     let g = i.before.before.before.before in
-    c.refused-sight.ensures ∙ unread _ _ _ g.requires i.if1.true
+    c.refused_sight.ensures ∙ unread _ _ _ g.requires i.if-r-ne0.true
 
-returns_2 : tie.Need-returns-2
+returns_2 : tie.Need-returns-then-so-ne0
 returns_2 c =
     let v = c.before.before.before in
     let i = v.before in
     let g = i.before.before.before.before in
-    c.refused-sight2.ensures ∙ unsound _ _ _ g.requires _ i.if1.false v.sound-verdict.ensures c.before.if2.true
+    c.refused_sight-then-so-ne0.ensures ∙ unsound _ _ _ g.requires _ i.if-r-ne0.false v.sound_verdict-so.ensures c.if-so-ne0.true
 
-read_lines_requires : tie.Need-read-lines-requires
+read_lines_requires : tie.Need-read_lines-requires
 read_lines_requires c κs =
     let e = c.before.before in
     let v = e.before.before in
     let g = v.before.before.before.before.before in
-    (sound_length _ (sym (ap (λ (a : Answer). a.number) v.sound-verdict.ensures) ∙ e.if2.false), rooms_kept _ _ g.requires)
+    (sound_length _ (sym (ap (λ (a : Answer). a.number) v.sound_verdict-so.ensures) ∙ e.if-so-ne0.false), rooms_kept _ _ g.requires)
 
-returns_3 : tie.Need-returns-3
+returns_3 : tie.Need-returns
 returns_3 c =
     let e = c.before.before.before in
     let v = e.before.before in
     let i = v.before in
     let g = i.before.before.before.before in
-    sound _ _ _ g.requires _ _ i.if1.false v.sound-verdict.ensures e.if2.false c.read-lines.ensures
+    sound _ _ _ g.requires _ _ i.if-r-ne0.false v.sound_verdict-so.ensures e.if-so-ne0.false c.read_lines.ensures
 
 pub look_spec : {M : Type 1} → statement M
 look_spec =

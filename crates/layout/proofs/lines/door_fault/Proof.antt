@@ -15,27 +15,27 @@ use Rattle.layout.proofs.lines.door_fault.Tie as tie
 few : (g : tie.Start) → length (held g.args.s.now g.args.starts.now g.args.n) ≤ 64
 few g = omega (arith, g.requires.few, held_long g.args.s.now g.args.starts.now g.args.n g.requires.inside)
 
-is_among_requires : tie.Need-is-among-requires
+is_among_requires : tie.Need-is_among-requires
 is_among_requires c κs =
     let g = c.before.before.before.before.before in
-    (g.requires, sym c.before.is_name.ensures ∙ c.if1.true)
+    (g.requires, sym c.is_name.ensures ∙ c.if-is_name.true)
 
-returns : tie.Need-returns
+returns : tie.Need-returns-then-is_among
 unfolding doors_of
 returns c =
     let i = c.before.before in
     let g = i.before.before.before.before.before in
-    door_known _ _ _ true (sym i.before.is_name.ensures ∙ i.if1.true) (few g) c.before.is_among.ensures c.if2.true
+    door_known _ _ _ true (sym i.is_name.ensures ∙ i.if-is_name.true) (few g) c.is_among.ensures c.if-is_among.true
 
-returns_2 : tie.Need-returns-2
+returns_2 : tie.Need-returns-then-is_name
 unfolding doors_of
 returns_2 c =
     let i = c.before.before in
     let g = i.before.before.before.before.before in
-    door_known _ _ _ false (sym i.before.is_name.ensures ∙ i.if1.true) (few g) c.before.is_among.ensures c.if2.false
+    door_known _ _ _ false (sym i.is_name.ensures ∙ i.if-is_name.true) (few g) c.is_among.ensures c.if-is_among.false
 
-returns_3 : tie.Need-returns-3
-returns_3 c = door_34 _ _ (sym c.before.is_name.ensures ∙ c.if1.false)
+returns_3 : tie.Need-returns
+returns_3 c = door_34 _ _ (sym c.is_name.ensures ∙ c.if-is_name.false)
 
 pub door_fault_spec : {M : Type 1} → statement M
 door_fault_spec = tie.close (tie.spec (search rules) is_among_requires returns returns_2 returns_3)

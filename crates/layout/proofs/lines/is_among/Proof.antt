@@ -12,40 +12,40 @@ use Rattle.layout.specs.Starts.{held}
 use Rattle.layout.proofs.lines.is_among.Statement.{statement}
 use Rattle.layout.proofs.lines.is_among.Tie as tie
 
-abbrev invariant_loop : tie.invariant_loop
+abbrev invariant_loop : tie.invariant-loop-j
 invariant_loop s starts n but k w j₀ j = (j ≤ n) × (lowest j (another but w (words_at k (held s starts n))) ≡ j)
 
-abbrev decreases_loop : tie.decreases_loop
+abbrev decreases_loop : tie.decreases-loop-j
 decreases_loop s starts n but k w j₀ j = n - j
 
-loop_holds : tie.Need-loop-init invariant_loop decreases_loop
+loop_holds : tie.Need-loop-j-init invariant_loop decreases_loop
 loop_holds c = (omega arith, lowest_none _)
 
-is_named_requires : tie.Need-is-named-requires invariant_loop decreases_loop
+is_named_requires : tie.Need-is_named-requires invariant_loop decreases_loop
 is_named_requires c κs =
     let z = c.before in
     let g = z.before.before.before.before in
-    (omega (arith, g.requires.0.inside, c.loop-test.true), (g.requires.1, g.requires.0.name z.loop.j c.loop-test.true))
+    (omega (arith, g.requires.0.inside, c.loop-j-test.true), (g.requires.1, g.requires.0.name z.loop-j.j c.loop-j-test.true))
 
-returns : tie.Need-returns invariant_loop decreases_loop
+returns : tie.Need-returns-then-is_named invariant_loop decreases_loop
 returns c =
     let z = c.before.before.before in
     let g = z.before.before.before.before in
-    let l = c.before.before.loop-test.true in
-    known_hit _ _ _ _ _ _ _ g.requires.0.inside l z.loop.invariant.1 (known_turn _ _ _ _ _ _ _ _ true g.requires.0.inside l c.before.is-named.ensures c.if1.true)
+    let l = c.loop-j-test.true in
+    known_hit _ _ _ _ _ _ _ g.requires.0.inside l z.loop-j.invariant.1 (known_turn _ _ _ _ _ _ _ _ true g.requires.0.inside l c.is_named.ensures c.if-is_named.true)
 
-loop_again : tie.Need-loop-preserved invariant_loop decreases_loop
+loop_again : tie.Need-loop-j-preserved invariant_loop decreases_loop
 loop_again c =
     let z = c.before.before.before in
     let g = z.before.before.before.before in
-    let l = c.before.before.loop-test.true in
-    (omega arith, lowest_more _ _ z.loop.invariant.1 (known_turn _ _ _ _ _ _ _ _ false g.requires.0.inside l c.before.is-named.ensures c.if1.false))
+    let l = c.loop-j-test.true in
+    (omega arith, lowest_more _ _ z.loop-j.invariant.1 (known_turn _ _ _ _ _ _ _ _ false g.requires.0.inside l c.is_named.ensures c.if-is_named.false))
 
-returns_2 : tie.Need-returns-2 invariant_loop decreases_loop
+returns_2 : tie.Need-returns invariant_loop decreases_loop
 returns_2 c =
     let z = c.before in
     let g = z.before.before.before.before in
-    known_none _ _ _ _ _ _ _ g.requires.0.inside c.loop-test.false z.loop.invariant.1
+    known_none _ _ _ _ _ _ _ g.requires.0.inside c.loop-j-test.false z.loop-j.invariant.1
 
 pub is_among_spec : {M : Type 1} → statement M
 is_among_spec =

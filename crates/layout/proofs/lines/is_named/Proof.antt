@@ -4,19 +4,19 @@ use borrow.Author.Rules.{rules}
 use Rattle.layout.proofs.lines.is_named.Statement.{statement}
 use Rattle.layout.proofs.lines.is_named.Tie as tie
 
-returns : tie.Need-returns
-returns c = named_not _ _ _ c.if1.true
+returns : tie.Need-returns-then-j-but
+returns c = named_not _ _ _ c.if-j-but.true
 
-same_name_requires : tie.Need-same-name-requires
+same_name_requires : tie.Need-same_name-requires
 same_name_requires c κs =
     let g = c.before.before.before.before.before.before.before in
-    (g.requires.1.0, named_asked g.args.s.now g.args.starts.now _ _ g.args.j g.args.k c.before.line_at_lem.ensures c.word.ensures g.requires.1.1)
+    (g.requires.1.0, named_asked g.args.s.now g.args.starts.now _ _ g.args.j g.args.k c.line_at.ensures c.word.ensures g.requires.1.1)
 
-returns_2 : tie.Need-returns-2
+returns_2 : tie.Need-returns
 returns_2 c =
     let l = c.before.before in
     let g = l.before.before.before.before.before.before in
-    named_by g.args.j g.args.but g.args.k g.args.w.now g.args.s.now g.args.starts.now _ _ _ l.before.before.if1.false l.line_at_lem.ensures c.before.word.ensures c.same_name.ensures
+    named_by g.args.j g.args.but g.args.k g.args.w.now g.args.s.now g.args.starts.now _ _ _ l.if-j-but.false l.line_at.ensures c.word.ensures c.same_name.ensures
 
 pub is_named_spec : {M : Type 1} → statement M
 is_named_spec =

@@ -5,22 +5,22 @@ use borrow.Author.Rules.{rules}
 use Rattle.layout.proofs.lines.line_fault.Statement.{statement}
 use Rattle.layout.proofs.lines.line_fault.Tie as tie
 
-returns : tie.Need-returns
-returns c = fault_blank _ _ _ _ c.before.before.line_at_lem.ensures _ c.before.word_count.ensures c.if1.true
+returns : tie.Need-returns-then-word_count-eq0
+returns c = fault_blank _ _ _ _ c.line_at-l.ensures _ c.word_count.ensures c.if-word_count-eq0.true
 
-returns_2 : tie.Need-returns-2
+returns_2 : tie.Need-returns-then-st-gt0
 unfolding state_of
 returns_2 c =
     let d = c.before in
     let e = d.before.before in
-    fault_entry _ _ _ _ e.before.before.line_at_lem.ensures _ e.before.word_count.ensures _ e.if1.false d.if2.true c.entry-fault.ensures
+    fault_entry _ _ _ _ e.line_at-l.ensures _ e.word_count.ensures _ e.if-word_count-eq0.false d.if-st-gt0.true c.entry_fault.ensures
 
-returns_3 : tie.Need-returns-3
+returns_3 : tie.Need-returns
 unfolding state_of
 returns_3 c =
     let d = c.before.before.before in
     let e = d.before.before in
-    fault_open _ _ _ _ e.before.before.line_at_lem.ensures _ e.before.word_count.ensures _ _ _ e.if1.false d.if2.false c.before.before.word.ensures c.before.opened.ensures c.open-fault.ensures
+    fault_open _ _ _ _ e.line_at-l.ensures _ e.word_count.ensures _ _ _ e.if-word_count-eq0.false d.if-st-gt0.false c.word.ensures c.opened.ensures c.open_fault.ensures
 
 pub line_fault_spec : {M : Type 1} → statement M
 line_fault_spec =

@@ -8,7 +8,7 @@ returns : tie.Need-returns
 returns c =
     let o = c.before.before in
     let t = o.before in
-    entered_by _ _ _ _ _ t.before.one-if.ensures t.one-if2.ensures o.one-if3.ensures c.before.one-if4.ensures
+    entered_by _ _ _ _ _ t.one_if-rooms.ensures t.one_if-tracks.ensures o.one_if-obstacles.ensures c.one_if-hooks.ensures
 
 pub one_more_spec : {M : Type 1} → statement M
 one_more_spec = tie.close (tie.spec (search rules) (search rules) (search rules) (search rules) (search rules) returns)

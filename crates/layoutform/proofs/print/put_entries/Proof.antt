@@ -13,47 +13,47 @@ use Rattle.layoutform.proofs.PrintLaws.{entries_start, entry_asked, entries_more
 use Rattle.layoutform.proofs.print.put_entries.Statement.{statement}
 use Rattle.layoutform.proofs.print.put_entries.Tie as tie
 
-abbrev invariant_loop : tie.invariant_loop
+abbrev invariant_loop : tie.invariant-loop-j
 invariant_loop out₀ at k s starts n old name e₀ j₀ out e j =
     Printing out₀ out at e (longest_line 5) j n (written (map entry_line (take j (map (renamed_from (lowered old) (lowered name)) (map (entry_of k) (held s starts n))))))
 
-abbrev decreases_loop : tie.decreases_loop
+abbrev decreases_loop : tie.decreases-loop-j
 decreases_loop out₀ at k s starts n old name e₀ j₀ out e j = n - j
 
-loop_holds : tie.Need-loop-init invariant_loop decreases_loop
+loop_holds : tie.Need-loop-j-init invariant_loop decreases_loop
 loop_holds c =
     let g = c.before.before.before.before.before in
     record { few = omega arith; bound = omega arith; wrote = entries_start g.args.k g.args.s.now g.args.starts.now g.args.n g.args.old.now g.args.name.now g.requires.1.1.1 _ _ }
 
-put_one_requires : tie.Need-put-one-requires invariant_loop decreases_loop
+put_one_requires : tie.Need-put_one-e-requires invariant_loop decreases_loop
 put_one_requires c κs =
     let i = c.before.before.before in
     let z = i.before in
     let g = z.before.before.before.before.before.before in
-    (omega (arith, z.loop.invariant.bound, i.loop-test.true, g.requires.0, g.requires.1.1.1.few), (g.requires.1.0, (g.requires.1.1.0, entry_asked g.args.k g.args.s.now g.args.starts.now g.args.n g.args.old.now g.args.name.now g.requires.1.1.1 z.loop.j _ i.loop-test.true c.before.line_at_lem.ensures)))
+    (omega (arith, z.loop-j.invariant.bound, i.loop-j-test.true, g.requires.0, g.requires.1.1.1.few), (g.requires.1.0, (g.requires.1.1.0, entry_asked g.args.k g.args.s.now g.args.starts.now g.args.n g.args.old.now g.args.name.now g.requires.1.1.1 z.loop-j.j _ i.loop-j-test.true c.line_at-l.ensures)))
 
-loop_again : tie.Need-loop-preserved invariant_loop decreases_loop
+loop_again : tie.Need-loop-j-preserved invariant_loop decreases_loop
 loop_again c =
     let p = c.before.before in
     let k = p.before.before in
     let i = k.before.before in
     let z = i.before in
     let g = z.before.before.before.before.before.before in
-    let l = i.loop-test.true in
+    let l = i.loop-j-test.true in
     record {
       few = omega arith;
-      bound = omega (arith, z.loop.invariant.bound, entries_further _ _ _ _ _ _ g.requires.1.1.1 z.loop.j _ l k.line_at_lem.ensures z.loop.invariant.wrote p.put_one.ensures g.requires.1.0);
-      wrote = entries_more _ _ _ _ _ _ g.requires.1.1.1 z.loop.j _ l k.line_at_lem.ensures z.loop.invariant.wrote p.put_one.ensures;
+      bound = omega (arith, z.loop-j.invariant.bound, entries_further _ _ _ _ _ _ g.requires.1.1.1 z.loop-j.j _ l k.line_at-l.ensures z.loop-j.invariant.wrote p.put_one-e.ensures g.requires.1.0);
+      wrote = entries_more _ _ _ _ _ _ g.requires.1.1.1 z.loop-j.j _ l k.line_at-l.ensures z.loop-j.invariant.wrote p.put_one-e.ensures;
     }
 
-same_length : tie.Need-same-length invariant_loop decreases_loop
-same_length c = wrote_long c.before.loop.invariant.wrote
+same_length : tie.Need-shape_of-out invariant_loop decreases_loop
+same_length c = wrote_long c.loop-j.invariant.wrote
 
 returns : tie.Need-returns invariant_loop decreases_loop
 returns c =
     let z = c.before in
     let g = z.before.before.before.before.before.before in
-    (entries_done _ _ _ _ _ _ g.requires.1.1.1 _ c.loop-test.false z.loop.invariant.wrote, omega (arith, z.loop.invariant.bound, z.loop.invariant.few))
+    (entries_done _ _ _ _ _ _ g.requires.1.1.1 _ c.loop-j-test.false z.loop-j.invariant.wrote, omega (arith, z.loop-j.invariant.bound, z.loop-j.invariant.few))
 
 pub put_entries_spec : {M : Type 1} → statement M
 put_entries_spec =

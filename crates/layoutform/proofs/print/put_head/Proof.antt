@@ -6,20 +6,20 @@ use Rattle.layoutform.proofs.PrintLaws.{head_bytes}
 use Rattle.layoutform.proofs.print.put_head.Statement.{statement}
 use Rattle.layoutform.proofs.print.put_head.Tie as tie
 
-put_byte_requires_2 : tie.Need-put-byte-requires-2
+put_byte_requires_2 : tie.Need-put_byte-requires
 put_byte_requires_2 c κs =
     let at-put-plain = c.before.before.before in
     let at-put-byte = at-put-plain.before.before.before.before in
     let at-put-word = at-put-byte.before.before.before.before in
     let g = at-put-word.before.before.before.before in
-    omega (arith, at-put-plain.put-plain.ensures.next, at-put-byte.put_byte.ensures.next, at-put-word.put_word.ensures.next, plain_short g.args.n, g.requires)
+    omega (arith, at-put-plain.put_plain-c.ensures.next, at-put-byte.put_byte-b.ensures.next, at-put-word.put_word-a.ensures.next, plain_short g.args.n, g.requires)
 
 returns : tie.Need-returns
 returns c =
     let at-put-plain = c.before.before.before.before.before.before in
     let at-put-byte = at-put-plain.before.before.before.before in
     let at-put-word = at-put-byte.before.before.before.before in
-    wrote_is _ (wrote_then at-put-word.put_word.ensures (wrote_then at-put-byte.put_byte.ensures (wrote_then at-put-plain.put-plain.ensures c.before.before.put-byte2.ensures))) (head_bytes _ _)
+    wrote_is _ (wrote_then at-put-word.put_word-a.ensures (wrote_then at-put-byte.put_byte-b.ensures (wrote_then at-put-plain.put_plain-c.ensures c.put_byte.ensures))) (head_bytes _ _)
 
 pub put_head_spec : {M : Type 1} → statement M
 put_head_spec =

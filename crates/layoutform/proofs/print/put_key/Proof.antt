@@ -6,7 +6,7 @@ use Rattle.layoutform.proofs.print.put_key.Statement.{statement}
 use Rattle.layoutform.proofs.print.put_key.Tie as tie
 
 returns : tie.Need-returns
-returns c = wrote_is _ (wrote_then c.before.before.before.before.before.before.put_word.ensures c.before.before.put_byte.ensures) (key_bytes _)
+returns c = wrote_is _ (wrote_then c.put_word-e.ensures c.put_byte.ensures) (key_bytes _)
 
 pub put_key_spec : {M : Type 1} → statement M
 put_key_spec = tie.close (tie.spec (search rules) (search rules) (search rules) returns)

@@ -6,17 +6,17 @@ use borrow.Author.Rules.{rules}
 use Rattle.sight.proofs.lines.mark.Statement.{statement}
 use Rattle.sight.proofs.lines.mark.Tie as tie
 
-returns : tie.Need-returns
-returns c = rows_blank _ _ _ _ (sym c.before.word_count.ensures ∙ c.if1.true)
+returns : tie.Need-returns-then-word_count-eq0
+returns c = rows_blank _ _ _ _ (sym c.word_count.ensures ∙ c.if-word_count-eq0.true)
 
-returns_2 : tie.Need-returns-2
-returns_2 c = rows_kept _ _ _ _ (λ e. c.before.before.if1.false (c.before.before.before.word_count.ensures ∙ e)) c.if2.true
+returns_2 : tie.Need-returns-then-st-eq0
+returns_2 c = rows_kept _ _ _ _ (λ e. c.if-word_count-eq0.false (c.word_count.ensures ∙ e)) c.if-st-eq0.true
 
-with_mark_requires : tie.Need-with-mark-requires
-with_mark_requires c κs = c.before.before.before.before.before.before.requires.1 (omega (arith, c.before.before.before.before.word_count.ensures, c.before.before.before.if1.false)) (omega (arith, c.before.if2.false))
+with_mark_requires : tie.Need-with_mark-requires
+with_mark_requires c κs = c.requires.1 (omega (arith, c.word_count.ensures, c.if-word_count-eq0.false)) (omega (arith, c.if-st-eq0.false))
 
-returns_3 : tie.Need-returns-3
-returns_3 c = rows_marked _ _ _ _ _ (λ e. c.before.before.before.before.if1.false (c.before.before.before.before.before.word_count.ensures ∙ e)) c.before.before.if2.false c.with-mark.ensures
+returns_3 : tie.Need-returns
+returns_3 c = rows_marked _ _ _ _ _ (λ e. c.if-word_count-eq0.false (c.word_count.ensures ∙ e)) c.if-st-eq0.false c.with_mark.ensures
 
 pub mark_spec : {M : Type 1} → statement M
 mark_spec =

@@ -6,14 +6,14 @@ use borrow.Author.Rules.{rules}
 use Rattle.sight.proofs.lines.seen_fault.Statement.{statement}
 use Rattle.sight.proofs.lines.seen_fault.Tie as tie
 
-returns : tie.Need-returns
-returns c = seen_33 _ _ _ _ (λ e. c.if1.true (c.before.word_count.ensures ∙ e))
+returns : tie.Need-returns-then-word_count-ne1
+returns c = seen_33 _ _ _ _ (λ e. c.if-word_count-ne1.true (c.word_count.ensures ∙ e))
 
-returns_2 : tie.Need-returns-2
-returns_2 c = c.room-fault.ensures ∙ seen_room _ _ _ _ (sym c.before.before.before.before.before.word_count.ensures ∙ c.before.before.before.before.if1.false) (ap is_name (sym c.before.before.before.word.ensures) ∙ sym c.before.before.is_name.ensures ∙ c.before.if2.true)
+returns_2 : tie.Need-returns-then-is_name
+returns_2 c = c.room_fault.ensures ∙ seen_room _ _ _ _ (sym c.word_count.ensures ∙ c.if-word_count-ne1.false) (ap is_name (sym c.word.ensures) ∙ sym c.is_name.ensures ∙ c.if-is_name.true)
 
-returns_3 : tie.Need-returns-3
-returns_3 c = seen_34 _ _ _ _ (sym c.before.before.before.before.word_count.ensures ∙ c.before.before.before.if1.false) (ap is_name (sym c.before.before.word.ensures) ∙ sym c.before.is_name.ensures ∙ c.if2.false)
+returns_3 : tie.Need-returns
+returns_3 c = seen_34 _ _ _ _ (sym c.word_count.ensures ∙ c.if-word_count-ne1.false) (ap is_name (sym c.word.ensures) ∙ sym c.is_name.ensures ∙ c.if-is_name.false)
 
 pub seen_fault_spec : {M : Type 1} → statement M
 seen_fault_spec =

@@ -5,11 +5,11 @@ use borrow.Author.Rules.{rules}
 use Rattle.sightform.proofs.print.put_if_seen.Statement.{statement}
 use Rattle.sightform.proofs.print.put_if_seen.Tie as tie
 
-returns : tie.Need-returns
-returns c = line_seen _ _ (sym c.before.before.before.before.before.is_seen.ensures ∙ c.before.before.before.before.if1.true) c.before.before.put-line.ensures
+returns : tie.Need-returns-then-is_seen
+returns c = line_seen _ _ (sym c.is_seen.ensures ∙ c.if-is_seen.true) c.put_line.ensures
 
-returns_2 : tie.Need-returns-2
-returns_2 c = line_unseen _ _ (sym c.before.is_seen.ensures ∙ c.if1.false) _ _
+returns_2 : tie.Need-returns
+returns_2 c = line_unseen _ _ (sym c.is_seen.ensures ∙ c.if-is_seen.false) _ _
 
 pub put_if_seen_spec : {M : Type 1} → statement M
 put_if_seen_spec =
