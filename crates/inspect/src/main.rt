@@ -91,6 +91,7 @@ fn put_too_long(out: &mut [u8]) -> usize
 }
 
 // The line of a file.
+#[tactic(auto, unfolding(crate::specs::Line::file_line, crate::specs::Line::file_memory))]
 fn file_line(bytes: &[u8], work: &mut [u8], out: &mut [u8]) -> usize
     ensures line { Wrote out.old out.new 0 result (file_line bytes.now (length work.old)) × (result ≤ 256) }
     ensures memory { work.new ≡ file_memory bytes.now work.old }
