@@ -2,13 +2,14 @@
 // is proved.
 #![tactic(auto)]
 
-ghost use Rattle.std.specs.Prelude.{◌≡◌, ◌++◌, ◌+◌, ◌<◌, ◌≤◌, length};
+ghost use Rattle.std.specs.Prelude.{◌≡◌, ◌++◌, ◌+◌, ◌<◌, ◌≤◌, length, IfOk};
 ghost use Rattle.verdict.specs.Lowest.{lowest};
 ghost use Rattle.printer.specs.Write.{Wrote};
 ghost use Rattle.inspect.specs.Line.{has_up_to, decimal, named, line_feed, too_long, accepted_line, refused_line, line_of, file_line, file_memory};
 
 use floor::Floor;
-use libc::{STDIN_FILENO, STDOUT_FILENO};
+use std::io;
+use std::io::{Read, Stdin};
 
 // 10, 100, .., 10 to the ninth.
 const POWERS: [u32; 9] = [
@@ -90,6 +91,7 @@ fn put_too_long(out: &mut [u8]) -> usize
 }
 
 // The line of a file.
+#[tactic(auto, unfolding(crate::specs::Line::file_line, crate::specs::Line::file_memory))]
 fn file_line(bytes: &[u8], work: &mut [u8], out: &mut [u8]) -> usize
     ensures line { Wrote out.old out.new 0 result (file_line bytes.now (length work.old)) × (result ≤ 256) }
     ensures memory { work.new ≡ file_memory bytes.now work.old }
@@ -101,11 +103,26 @@ fn file_line(bytes: &[u8], work: &mut [u8], out: &mut [u8]) -> usize
     line_of(out, r)
 }
 
-fn main() {
+// Reads until the bytes are full or the input ends: how many were read.
+fn read_full(mut input: Stdin, bytes: &mut [u8]) -> io::Result<usize>
+    ensures { IfOk result (λ n. n ≤ length bytes.new) }
+{
+    let mut done = 0;
+    while done < bytes.len() {
+        let n = input.read(&mut bytes[done..])?;
+        if n == 0 {
+            break;
+        }
+        done += n;
+    }
+    Ok(done)
+}
+
+fn main(rt: HostRuntime) -> io::Result<()> {
     let mut bytes = [0u8; 65537];
     let mut work = [0u8; verdict::WORK_SIZE];
     let mut out = [0u8; 256];
-    let n = io::read_full(STDIN_FILENO, &mut bytes);
+    let n = read_full(rt.stdin(), &mut bytes)?;
     let e = file_line(&bytes[..n], &mut work, &mut out);
-    io::write_all(STDOUT_FILENO, &out[..e]);
+    rt.write_all(&out[..e])
 }

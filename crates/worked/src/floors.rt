@@ -1,7 +1,7 @@
 // The link check: one walkable triangle whose three edges lead to rooms of a layout. What each case shows is written before its answer.
 ghost use Rattle.std.specs.Prelude.{◌+◌, ◌≤◌};
 
-use libc::STDOUT_FILENO;
+use std::io;
 
 // The float 1.
 const ONE: u32 = 0x3F80_0000;
@@ -63,74 +63,83 @@ fn edges(b: &mut [u8; 288], t0: u32, t1: u32, t2: u32) {
 }
 
 // What the link check says of a floor and a layout, with so much work memory.
-fn linked(what: &[u8], floor: &[u8], rooms: &[u8], work: &mut [u8]) {
+fn linked(
+    rt: &impl Print,
+    what: &[u8],
+    floor: &[u8],
+    rooms: &[u8],
+    work: &mut [u8],
+) -> io::Result<()> {
     let a = links::link_check(floor, work, rooms);
-    io::write_all(STDOUT_FILENO, b"links, ");
-    io::write_all(STDOUT_FILENO, what);
-    io::write_all(STDOUT_FILENO, b": ");
-    super::told(a);
+    rt.write_all(b"links, ")?;
+    rt.write_all(what)?;
+    rt.write_all(b": ")?;
+    super::told(rt, a)
 }
 
 // The triangle that was made, checked against a layout.
-fn made(what: &[u8], floor: &[u8; 288], rooms: &[u8]) {
+fn made(rt: &impl Print, what: &[u8], floor: &[u8; 288], rooms: &[u8]) -> io::Result<()> {
     let mut work = [0u8; verdict::WORK_SIZE];
-    linked(what, floor, rooms, &mut work);
+    linked(rt, what, floor, rooms, &mut work)
 }
 
 // The triangle with these transitions, checked against a layout.
-fn links(what: &[u8], t0: u32, t1: u32, t2: u32, rooms: &[u8]) {
+fn links(rt: &impl Print, what: &[u8], t0: u32, t1: u32, t2: u32, rooms: &[u8]) -> io::Result<()> {
     let mut b = [0u8; 288];
     header(&mut b);
     triangle(&mut b);
     edges(&mut b, t0, t1, t2);
-    made(what, &b, rooms);
+    made(rt, what, &b, rooms)
 }
 
 // Edges that lead to rooms, past them, and nowhere.
-fn leads() {
+fn leads(rt: &impl Print) -> io::Result<()> {
     let two = b"beginlayout\nroomcount 2\nHall 0 0 0\nCourt 0 0 0\ndonelayout\n";
     let none = b"beginlayout\nroomcount 0\ndonelayout\n";
-    links(b"edges that lead to both rooms", 1, wire::NONE, 0, two);
-    links(b"edge that leads past the rooms", 1, 2, 63, two);
+    links(rt, b"edges that lead to both rooms", 1, wire::NONE, 0, two)?;
+    links(rt, b"edge that leads past the rooms", 1, 2, 63, two)?;
     links(
+        rt,
         b"edges that lead nowhere",
         wire::NONE,
         wire::NONE,
         wire::NONE,
         none,
-    );
+    )?;
     links(
+        rt,
         b"edge that leads on, no room",
         wire::NONE,
         wire::NONE,
         0,
         none,
-    );
+    )
 }
 
 // The floor is asked before the text, and the text before the edges.
-fn in_order() {
+fn in_order(rt: &impl Print) -> io::Result<()> {
     links(
+        rt,
         b"text refused before the edges",
         63,
         63,
         63,
         b"beginlayout\nroomcount 0\n",
-    );
-    links(b"floor refused before the text", 63, 63, 64, b"");
+    )?;
+    links(rt, b"floor refused before the text", 63, 63, 64, b"")
 }
 
 // No floor, with the work memory that a call needs and with a byte less.
-fn no_floor() {
+fn no_floor(rt: &impl Print) -> io::Result<()> {
     let two = b"beginlayout\nroomcount 0\ndonelayout\n";
     let mut work = [0u8; verdict::WORK_SIZE];
-    linked(b"no floor", b"", two, &mut work);
+    linked(rt, b"no floor", b"", two, &mut work)?;
     let mut few = [0u8; verdict::WORK_SIZE - 1];
-    linked(b"work memory too short", b"", two, &mut few);
+    linked(rt, b"work memory too short", b"", two, &mut few)
 }
 
-pub(crate) fn all() {
-    leads();
-    in_order();
-    no_floor();
+pub(crate) fn all(rt: &impl Print) -> io::Result<()> {
+    leads(rt)?;
+    in_order(rt)?;
+    no_floor(rt)
 }

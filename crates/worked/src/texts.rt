@@ -4,8 +4,8 @@
 ghost use Rattle.std.specs.Prelude.{◌≤◌, ◌<◌, length};
 
 use super::{end, gap, number};
-use libc::STDOUT_FILENO;
 use names::same_word;
+use std::io;
 use text::line;
 use verdict::Form;
 
@@ -72,11 +72,11 @@ fn numeral(w: &[u8]) -> u32 {
 }
 
 // The call, and what the case shows.
-fn shows(call: &[u8], what: &[u8]) {
-    io::write_all(STDOUT_FILENO, call);
-    gap();
-    io::write_all(STDOUT_FILENO, what);
-    io::write_all(STDOUT_FILENO, b": ");
+fn shows(rt: &impl Print, call: &[u8], what: &[u8]) -> io::Result<()> {
+    rt.write_all(call)?;
+    gap(rt)?;
+    rt.write_all(what)?;
+    rt.write_all(b": ")
 }
 
 // The first n bytes, none if there are not so many.
@@ -88,70 +88,91 @@ fn start(bytes: &[u8], n: usize) -> &[u8] {
 }
 
 // Number, place and length, then the form itself.
-fn form(call: &[u8], what: &[u8], f: Form, out: &[u8]) {
-    shows(call, what);
-    number(f.number);
-    gap();
-    number(f.place);
-    gap();
-    number(f.length);
-    end();
-    io::write_all(STDOUT_FILENO, start(out, f.length as usize));
+fn form(rt: &impl Print, call: &[u8], what: &[u8], f: Form, out: &[u8]) -> io::Result<()> {
+    shows(rt, call, what)?;
+    number(rt, f.number)?;
+    gap(rt)?;
+    number(rt, f.place)?;
+    gap(rt)?;
+    number(rt, f.length)?;
+    end(rt)?;
+    rt.write_all(start(out, f.length as usize))
 }
 
 // A room's caption: the number, the length, and the part of the text on a line of its own.
-fn caption<'a>(call: &[u8], what: &[u8], visitor: &'a [u8], house: &'a [u8], room: u32) {
+fn caption<'a>(
+    rt: &impl Print,
+    call: &[u8],
+    what: &[u8],
+    visitor: &'a [u8],
+    house: &'a [u8],
+    room: u32,
+) -> io::Result<()> {
     let mut told: u32 = 0;
     let part = caption::caption(visitor, house, room, &mut told);
-    shows(call, what);
-    number(told);
-    gap();
-    io::print_decimal(STDOUT_FILENO, part.len() as u64);
-    end();
-    io::write_all(STDOUT_FILENO, part);
-    end();
+    shows(rt, call, what)?;
+    number(rt, told)?;
+    gap(rt)?;
+    rt.print(part.len())?;
+    end(rt)?;
+    rt.write_all(part)?;
+    end(rt)
 }
 
 // A room's row: number, place, row, how many rooms it sees.
-fn row(what: &[u8], rooms: &[u8], vis: &[u8], room: u32) {
+fn row(rt: &impl Print, what: &[u8], rooms: &[u8], vis: &[u8], room: u32) -> io::Result<()> {
     let r = sight::sight_row(rooms, vis, room);
-    shows(b"row,", what);
-    number(r.number);
-    gap();
-    number(r.place);
-    gap();
-    io::print_decimal(STDOUT_FILENO, r.row);
-    gap();
-    number(r.seen);
-    end();
+    shows(rt, b"row,", what)?;
+    number(rt, r.number)?;
+    gap(rt)?;
+    number(rt, r.place)?;
+    gap(rt)?;
+    rt.print(r.row)?;
+    gap(rt)?;
+    number(rt, r.seen)?;
+    end(rt)
 }
 
 // Visibility in its fixed form.
-fn sight(what: &[u8], rooms: &[u8], vis: &[u8], out: &mut [u8]) {
+fn sight(rt: &impl Print, what: &[u8], rooms: &[u8], vis: &[u8], out: &mut [u8]) -> io::Result<()> {
     let f = sightform::sight_rewrite(rooms, vis, out);
-    form(b"VIS", what, f, out);
+    form(rt, b"VIS", what, f, out)
 }
 
 // Visibility rewritten, and a room's row.
-fn sight_and_row(what: &[u8], rooms: &[u8], vis: &[u8], room: u32) {
+fn sight_and_row(
+    rt: &impl Print,
+    what: &[u8],
+    rooms: &[u8],
+    vis: &[u8],
+    room: u32,
+) -> io::Result<()> {
     let mut out = [0u8; 512];
-    sight(what, rooms, vis, &mut out);
-    row(what, rooms, vis, room);
+    sight(rt, what, rooms, vis, &mut out)?;
+    row(rt, what, rooms, vis, room)
 }
 
 // Visibility with another name for a room, read against the layout with the same name for it.
-fn read_back(what: &[u8], rooms: &[u8], vis: &[u8], room: u32, name: &[u8]) {
+fn read_back(
+    rt: &impl Print,
+    what: &[u8],
+    rooms: &[u8],
+    vis: &[u8],
+    room: u32,
+    name: &[u8],
+) -> io::Result<()> {
     let mut new_rooms = [0u8; 512];
     let mut new_vis = [0u8; 512];
     let a = layoutform::layout_rename(rooms, room, name, &mut new_rooms);
     let b = sightform::sight_rename(rooms, vis, room, name, &mut new_vis);
     let n = a.length as usize;
     let m = b.length as usize;
-    sight_and_row(what, start(&new_rooms, n), start(&new_vis, m), room);
+    sight_and_row(rt, what, start(&new_rooms, n), start(&new_vis, m), room)
 }
 
 // One of the calls that write an output.
 fn written(
+    rt: &impl Print,
     call: &[u8],
     what: &[u8],
     first: &[u8],
@@ -159,24 +180,25 @@ fn written(
     room: u32,
     name: &[u8],
     out: &mut [u8],
-) {
+) -> io::Result<()> {
     if same_word(call, b"LYT") {
         let f = layoutform::layout_rewrite(first, out);
-        return form(call, what, f, out);
+        return form(rt, call, what, f, out);
     }
     if same_word(call, b"LYT renamed,") {
         let f = layoutform::layout_rename(first, room, name, out);
-        return form(call, what, f, out);
+        return form(rt, call, what, f, out);
     }
     if same_word(call, b"VIS") {
-        return sight(what, first, second, out);
+        return sight(rt, what, first, second, out);
     }
     let f = sightform::sight_rename(first, second, room, name, out);
-    form(call, what, f, out);
+    form(rt, call, what, f, out)
 }
 
 // One of all calls.
 fn called<'a>(
+    rt: &impl Print,
     call: &[u8],
     what: &[u8],
     first: &'a [u8],
@@ -184,21 +206,22 @@ fn called<'a>(
     room: u32,
     name: &[u8],
     out: &mut [u8],
-) {
+) -> io::Result<()> {
     if same_word(call, b"caption,") {
-        return caption(call, what, first, second, room);
+        return caption(rt, call, what, first, second, room);
     }
     if same_word(call, b"row,") {
-        return row(what, first, second, room);
+        return row(rt, what, first, second, room);
     }
     if same_word(call, b"read back,") {
-        return read_back(what, first, second, room, name);
+        return read_back(rt, what, first, second, room, name);
     }
-    written(call, what, first, second, room, name, out);
+    written(rt, call, what, first, second, room, name, out)
 }
 
 // The output of a case is as long as it says.
 fn lent<'a>(
+    rt: &impl Print,
     call: &[u8],
     what: &[u8],
     first: &'a [u8],
@@ -207,14 +230,21 @@ fn lent<'a>(
     name: &[u8],
     out: &mut [u8],
     long: usize,
-) {
+) -> io::Result<()> {
     if long <= out.len() {
-        called(call, what, first, second, room, name, &mut out[..long]);
+        return called(rt, call, what, first, second, room, name, &mut out[..long]);
     }
+    Ok(())
 }
 
 // A case whose call stands at a line, with its two texts.
-fn named<'a>(s: &[u8], at: usize, first: &'a [u8], second: &'a [u8])
+fn named<'a>(
+    rt: &impl Print,
+    s: &[u8],
+    at: usize,
+    first: &'a [u8],
+    second: &'a [u8],
+) -> io::Result<()>
     requires { at < 8000 }
 {
     let mut name = [0u8; 64];
@@ -223,6 +253,7 @@ fn named<'a>(s: &[u8], at: usize, first: &'a [u8], second: &'a [u8])
     let room = numeral(line(s, at + 4));
     let long = numeral(line(s, at + 6)) as usize;
     lent(
+        rt,
         line(s, at),
         line(s, at + 1),
         first,
@@ -231,11 +262,11 @@ fn named<'a>(s: &[u8], at: usize, first: &'a [u8], second: &'a [u8])
         start(&name, l),
         &mut out,
         long,
-    );
+    )
 }
 
 // Case k.
-fn run(s: &[u8], k: usize)
+fn run(rt: &impl Print, s: &[u8], k: usize) -> io::Result<()>
     requires { k < 1000 }
 {
     let at = 8 * k;
@@ -243,43 +274,50 @@ fn run(s: &[u8], k: usize)
     let mut second = [0u8; 512];
     let n = spelled(line(s, at + 2), &mut first);
     let m = spelled(line(s, at + 3), &mut second);
-    named(s, at, start(&first, n), start(&second, m));
+    named(rt, s, at, start(&first, n), start(&second, m))
 }
 
 // All cases, up to one without a call.
-pub(crate) fn all(s: &[u8]) {
+pub(crate) fn all(rt: &impl Print, s: &[u8]) -> io::Result<()> {
     let mut k: usize = 0;
     while k < 1000 {
         if line(s, 8 * k).len() == 0 {
-            return;
+            return Ok(());
         }
-        run(s, k);
+        run(rt, s, k)?;
         k += 1;
     }
+    Ok(())
 }
 
 // Layouts of 65,537 and 65,536 refused bytes.
-fn longest_layouts(over: &[u8], most: &[u8]) {
+fn longest_layouts(rt: &impl Print, over: &[u8], most: &[u8]) -> io::Result<()> {
     let mut out = [0u8; 512];
     let a = layoutform::layout_rewrite(over, &mut out);
-    form(b"LYT", b"65,537 refused bytes", a, &out);
+    form(rt, b"LYT", b"65,537 refused bytes", a, &out)?;
     let b = layoutform::layout_rewrite(most, &mut out);
-    form(b"LYT", b"65,536 refused bytes", b, &out);
+    form(rt, b"LYT", b"65,536 refused bytes", b, &out)
 }
 
 // Visibility of so many, and a layout that is refused before it.
-fn longest_sights(over: &[u8], most: &[u8]) {
+fn longest_sights(rt: &impl Print, over: &[u8], most: &[u8]) -> io::Result<()> {
     let mut out = [0u8; 512];
     let rooms = b"beginlayout\nroomcount 3\nHall 0 0 0\nCourt 10 0 0\nWell 0 10 0\ndonelayout\n";
-    sight(b"layout refused first", b"beginlayout\n\n", over, &mut out);
-    sight(b"65,537 refused bytes", rooms, over, &mut out);
-    sight(b"65,536 refused bytes", rooms, most, &mut out);
+    sight(
+        rt,
+        b"layout refused first",
+        b"beginlayout\n\n",
+        over,
+        &mut out,
+    )?;
+    sight(rt, b"65,537 refused bytes", rooms, over, &mut out)?;
+    sight(rt, b"65,536 refused bytes", rooms, most, &mut out)
 }
 
 // Texts of 65,537 and 65,536 refused bytes: 31 stands before 32.
-pub(crate) fn longest() {
+pub(crate) fn longest(rt: &impl Print) -> io::Result<()> {
     let over = [35u8; 65537];
     let most = [35u8; 65536];
-    longest_layouts(&over, &most);
-    longest_sights(&over, &most);
+    longest_layouts(rt, &over, &most)?;
+    longest_sights(rt, &over, &most)
 }

@@ -9,23 +9,23 @@ use Rattle.inspect.specs.Line.{has_up_to}
 use Rattle.inspect.proofs.first_under.Statement.{statement}
 use Rattle.inspect.proofs.first_under.Tie as tie
 
-abbrev invariant_loop : tie.invariant_loop
+abbrev invariant_loop : tie.invariant-loop-k
 invariant_loop n k₀ k = lowest k (has_up_to n) ≡ k
 
-abbrev decreases_loop : tie.decreases_loop
+abbrev decreases_loop : tie.decreases-loop-k
 decreases_loop n k₀ k = 9 - k
 
-loop_holds : tie.Need-loop-init invariant_loop decreases_loop
+loop_holds : tie.Need-loop-k-init invariant_loop decreases_loop
 loop_holds c = lowest_none _
 
-returns : tie.Need-returns invariant_loop decreases_loop
-returns c = (sym (lowest_hit _ _ 9 c.before.before.before.loop.invariant (rw (← c.before.is-under.ensures) c.if1.true) (search rules)), omega arith)
+returns : tie.Need-returns-then-is_under invariant_loop decreases_loop
+returns c = (sym (lowest_hit _ _ 9 c.loop-k.invariant (rw (← c.is_under.ensures) c.if-is_under.true) (search rules)), omega arith)
 
-loop_again : tie.Need-loop-preserved invariant_loop decreases_loop
-loop_again c = lowest_more _ _ c.before.before.before.loop.invariant (rw (← c.before.is-under.ensures) c.if1.false)
+loop_again : tie.Need-loop-k-preserved invariant_loop decreases_loop
+loop_again c = lowest_more _ _ c.loop-k.invariant (rw (← c.is_under.ensures) c.if-is_under.false)
 
-returns_2 : tie.Need-returns-2 invariant_loop decreases_loop
-returns_2 c = (lowest_done _ _ 9 c.before.loop.invariant (search rules), omega arith)
+returns_2 : tie.Need-returns invariant_loop decreases_loop
+returns_2 c = (lowest_done _ _ 9 c.loop-k.invariant (search rules), omega arith)
 
 pub first_under_spec : {M : Type 1} → statement M
 first_under_spec = tie.close (tie.spec invariant_loop decreases_loop loop_holds (search rules) returns (search rules) (search rules) loop_again returns_2)

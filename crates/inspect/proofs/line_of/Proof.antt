@@ -5,13 +5,13 @@ use Rattle.inspect.specs.Line.{line_of}
 use Rattle.inspect.proofs.line_of.Statement.{statement}
 use Rattle.inspect.proofs.line_of.Tie as tie
 
-returns : tie.Need-returns
+returns : tie.Need-returns-then-r-eq0
 unfolding line_of
-returns c = rw (eq-eqb _ 0 c.before.before.before.before.if1.true) c.before.before.put-accepted.ensures
+returns c = rw (eq-eqb _ 0 c.if-r-eq0.true) c.put_accepted.ensures
 
-returns_2 : tie.Need-returns-2
+returns_2 : tie.Need-returns
 unfolding line_of
-returns_2 c = rw (ne_eqb _ 0 c.before.before.before.before.if1.false) c.before.before.Put-refused.ensures
+returns_2 c = rw (ne_eqb _ 0 c.if-r-eq0.false) c.put_refused.ensures
 
 pub line_of_spec : {M : Type 1} → statement M
 line_of_spec = tie.close (tie.spec (search rules) (search rules) returns (search rules) (search rules) returns_2)

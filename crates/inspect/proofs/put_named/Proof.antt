@@ -7,8 +7,8 @@ use Rattle.inspect.proofs.put_named.Tie as tie
 
 returns : tie.Need-returns
 returns c =
-    let number = c.before.before.put-decimal in
-    let word = c.before.before.before.before.before.before.put_word in
+    let number = c.put_decimal in
+    let word = c.put_word-next in
     (wrote_then word.ensures number.ensures.0, omega (arith, word.ensures.next, number.ensures.1))
 
 pub put_named_spec : {M : Type 1} → statement M

@@ -7,9 +7,9 @@ use Rattle.inspect.proofs.put_too_long.Tie as tie
 
 returns : tie.Need-returns
 returns c =
-    let end = c.before.before.put_byte in
-    let word = c.before.before.before.before.before.before.put_word in
+    let end = c.put_byte in
+    let word = c.put_word-a in
     (wrote_then word.ensures end.ensures, omega (arith, end.ensures.next, word.ensures.next))
 
 pub put_too_long_spec : {M : Type 1} → statement M
-put_too_long_spec = tie.close (tie.spec (search rules) (search rules) (search rules) (search rules) returns)
+put_too_long_spec = tie.close (tie.spec (search rules) (search rules) (search rules) returns)
