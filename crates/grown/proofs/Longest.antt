@@ -4,7 +4,7 @@ use native.Mathlib.Omega.{arith}
 use mathlib.Core.Path.{◌≡◌, refl}
 use mathlib.Core.Bool.{Bool, true, false, not, ◌&&◌, beq}
 use lib.Dec.{ltb}
-use lib.Ieee.{Float, Format, low, emax, nan, inf, fin, up, down, le, lt, eq, neg, add, sub, sum, round, units, odd, is_nan, binary32}
+use lib.Ieee.{prec, Float, Format, low, emax, nan, inf, fin, up, down, le, lt, eq, neg, add, sub, sum, round, units, odd, is_nan, binary32}
 use Rattle.verdict.proofs.Bools.{clash, test, and_true, true_and, and_false}
 use Rattle.grid.specs.Grid.{finite}
 use Rattle.grid.proofs.Order.{le_trans, le_finite}
@@ -24,7 +24,7 @@ odd_number d s (suc q) k l = refl
 
 units_number : (f : Format) (s : Bool) (q k : ℕ) → is_nan (units f s q k) ≡ false
 unfolding units is_nan
-units_number f s q k = test (ltb (q * 2 ^ k) (2 ^ (low f + suc (emax f)))) (λ y. rw y (odd_number _ s q k _)) (λ y. rw y)
+units_number f s q k = test (ltb (q * 2 ^ k) (2 ^ (low f + suc (emax f)))) (λ y. rw y (odd_number (suc (prec f)) s q k (low f))) (λ y. rw y)
 
 round_number : (f : Format) (s : Bool) (a b : ℕ) → is_nan (round f s a b) ≡ false
 unfolding round

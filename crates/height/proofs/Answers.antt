@@ -21,7 +21,6 @@ use Rattle.query.specs.Rules.{query_verdict}
 use Rattle.query.specs.Points.{corner_at, face_holds, point_answer, Ready}
 use Rattle.query.proofs.Replies.{by_groups, near_x, near_y, ready}
 use Rattle.query.proofs.Meaning.{query_says, query_refused, holds_from}
-use Rattle.height.specs.declared.Height.{Height}
 use Rattle.height.specs.Feet.{corner_of, height_on, with_height, standing, height_answer}
 
 -- what is known of a face that was found

@@ -6,30 +6,30 @@ use Rattle.height.proofs.Answers.{holds_made, height_made}
 use Rattle.height.proofs.face_height.Statement.{statement}
 use Rattle.height.proofs.face_height.Tie as tie
 
-corner_at_requires : tie.Need-corner-at-requires
-corner_at_requires c κs = let h = c.before.requires in (h.0, h.1, omega arith)
+corner_at_requires : tie.Need-corner_at-a-requires
+corner_at_requires c κs = let h = c.requires in (h.0, h.1, omega arith)
 
-corner_at_requires_2 : tie.Need-corner-at-requires-2
-corner_at_requires_2 c κs = let h = c.before.before.requires in (h.0, h.1, omega arith)
+corner_at_requires_2 : tie.Need-corner_at-b-requires
+corner_at_requires_2 c κs = let h = c.requires in (h.0, h.1, omega arith)
 
-corner_at_requires_3 : tie.Need-corner-at-requires-3
-corner_at_requires_3 c κs = let h = c.before.before.before.requires in (h.0, h.1, omega arith)
+corner_at_requires_3 : tie.Need-corner_at-c-requires
+corner_at_requires_3 c κs = let h = c.requires in (h.0, h.1, omega arith)
 
-height_of_requires : tie.Need-height-of-requires
+height_of_requires : tie.Need-height_of-requires
 height_of_requires c κs =
-    let i = c.before.before.corner-at.ensures in
-    let j = c.before.corner-at2.ensures in
-    let k = c.corner-at3.ensures in
-    let h = c.before.before.before.before.requires in
+    let i = c.corner_at-a.ensures in
+    let j = c.corner_at-b.ensures in
+    let k = c.corner_at-c.ensures in
+    let h = c.requires in
     (i.1, j.1, k.1, read_within h.2 tt, read_within h.3 tt, holds_made _ _ _ _ i.0 j.0 k.0 (read_is h.2 tt) (read_is h.3 tt) h.4)
 
 returns : tie.Need-returns
 returns c =
     let d = c.before in
-    let h = d.before.before.before.before.requires in
-    let r = c.height-of.ensures in (
+    let h = d.requires in
+    let r = c.height_of.ensures in (
       read_is r.1 tt
-          ∙ height_made _ _ _ _ d.before.before.corner-at.ensures.0 d.before.corner-at2.ensures.0 d.corner-at3.ensures.0 (read_is h.2 tt) (read_is h.3 tt) r.0,
+          ∙ height_made _ _ _ _ d.corner_at-a.ensures.0 d.corner_at-b.ensures.0 d.corner_at-c.ensures.0 (read_is h.2 tt) (read_is h.3 tt) r.0,
       read_within r.1 tt,
     )
 
