@@ -2,13 +2,13 @@
 use Prim.Native.Nat.{ℕ, zero, suc, ◌+◌, ◌*◌, ◌-◌, ◌/◌, ◌<◌, ◌≤◌}
 use native.Mathlib.Omega.{arith}
 use native.Mathlib.Decide.{dec_lt}
-use mathlib.Core.Path.{◌≡◌, refl, sym, ap, subst, ◌∙◌}
+use mathlib.Core.Path.{◌≡◌, refl, sym, ap, subst}
 use mathlib.Core.List.{List, [], ◌∷◌, ◌++◌}
 use lib.Dec.{leb}
 use lib.ListN.{length}
 use lib.Ieee.{binary32}
 use lib.Ieee.Bits.{to_bits-lt}
-use borrow.Author.Tests.{leb-true, leb-false, eq-eqb}
+use borrow.Author.Tests.{leb-true, leb-false}
 use Rattle.verdict.specs.Memory.{work_size}
 use Rattle.verdict.specs.Verdict.{accepted}
 use Rattle.verdict.specs.declared.Answer.{Answer}
@@ -33,7 +33,7 @@ use Rattle.floor.proofs.Meaning.{sound_accepted}
 use Rattle.planting.specs.Boxes.{face_box, range_box}
 use Rattle.planting.specs.Planting.{node_words, leaf_words, inner_words, range_words, tree_words, planted}
 use Rattle.planting.specs.Sides.{Sides, Good}
-use Rattle.planting.proofs.Ranges.{most, most_12, none_most, words_one, words_two, half_some, rest_some, half_most, rest_most, length_range}
+use Rattle.planting.proofs.Ranges.{most, most_12, none_most, words_one, words_two, half_some, rest_some, half_most, rest_most}
 use Rattle.grown.proofs.Numbered.{plane_small}
 use Rattle.planting.proofs.Tight.{face_good, range_good}
 use Rattle.planting.proofs.Writing.{some_words, no_words, tree_length}

@@ -9,17 +9,16 @@ use mathlib.Core.List.{List}
 use mathlib.Core.Logic.{◌⊎◌}
 use lib.ListN.{get_or}
 use Rattle.verdict.specs.Lists.{times, once}
-use Rattle.verdict.specs.Verdict.{accepted}
 use Rattle.verdict.proofs.Bools.{decided, true_and, not_of_false}
 use Rattle.tables.specs.Parts.{Parts, table_of}
-use Rattle.nodes.specs.Nodes.{nodes_of, face_of, rules11to12}
+use Rattle.nodes.specs.Nodes.{nodes_of, face_of}
 use Rattle.nodes.specs.Plain.{Leaf, Inner, SoundNodes, Closed}
 use Rattle.nodes.proofs.Rule12.{sound_closed}
-use Rattle.tree.specs.Tree.{ends, deep, leaf_faces, one_tree, rule13}
+use Rattle.tree.specs.Tree.{ends, deep, leaf_faces, one_tree}
 use Rattle.tree.specs.Plain.{FloorTree}
 use Rattle.tree.proofs.Paths.{short}
 use Rattle.tree.proofs.Rule13.{kids, one_some}
-use Rattle.tree.proofs.Theorem.{once_all, one_tree_to, met_rule13}
+use Rattle.tree.proofs.Theorem.{once_all, one_tree_to}
 use Rattle.planting.specs.Planting.{range_words, planted}
 use Rattle.grown.specs.Plain.{Halved, Twelve}
 use Rattle.planting.proofs.Ranges.{most_12}

@@ -5,7 +5,7 @@ use native.Mathlib.Omega.{arith}
 use mathlib.Core.Path.{◌≡◌, sym, ap, subst, ◌∙◌}
 use lib.Dec.{leb}
 use lib.ListN.{get_or}
-use lib.Ieee.{Float, fits, binary32, to_bits}
+use lib.Ieee.{Float, binary32, to_bits}
 use lib.Ieee.Bits.{of_bits-to_bits}
 use borrow.Author.Tests.{leb-true, leb-false}
 use Rattle.verdict.proofs.Bools.{test}
@@ -28,7 +28,7 @@ use Rattle.planting.proofs.Ranges.{none_most, box_one}
 use Rattle.grown.proofs.Spots.{Spot, one_words, two_words, left_spot, right_spot}
 use Rattle.grown.proofs.Numbered.{leaf_face, leaf_at, inner_at, left_is, right_is}
 use Rattle.planting.proofs.Tight.{range_good, face_holds, range_lower, range_upper}
-use Rattle.grown.proofs.Grown.{faces_are, few_planted, each_node, kinds_planted}
+use Rattle.grown.proofs.Grown.{faces_are, few_planted, each_node}
 
 -- ---- words there and back
 

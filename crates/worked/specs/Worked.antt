@@ -1,6 +1,6 @@
 -- The papers' checked examples as one table, document 01's as 02 restates them: what is done, and the numbers that it gives by the
 -- definitions.
-use Rattle.std.specs.Prelude.{ℕ, ◌+◌, ◌≡◌, List, [], ◌∷◌, ◌++◌, map, replicate, ℤ, pos}
+use Rattle.std.specs.Prelude.{ℕ, ◌≡◌, List, [], ◌∷◌, ◌++◌, map, replicate, ℤ, pos}
 use Rattle.verdict.specs.Lists.{bit}
 use Rattle.verdict.specs.Memory.{work_size}
 use Rattle.verdict.specs.declared.Form.{Form}

@@ -11,33 +11,33 @@ use Rattle.links.proofs.Meaning.{text_verdict, text_rooms, in_turn}
 use Rattle.links.proofs.link_check.Statement.{statement}
 use Rattle.links.proofs.link_check.Tie as tie
 
-returns : tie.Need-returns
+returns : tie.Need-returns-then-so-ne0
 returns c =
-    let so = c.before.before.before.before.read-verdict in
-    (stops _ _ _ so.ensures.0 c.if1.true ∙ in_turn _ _ _, so.ensures.1)
+    let so = c.read_verdict-so in
+    (stops _ _ _ so.ensures.0 c.if-so-ne0.true ∙ in_turn _ _ _, so.ensures.1)
 
-returns_2 : tie.Need-returns-2
+returns_2 : tie.Need-returns-then-r-ne0
 returns_2 c =
     let e = c.before.before.before in
-    let so = e.before.before.before.before.read-verdict in
-    let text = c.before.before.room-count in
-    (goes_on _ _ so.result _ so.ensures.0 e.if1.false (stops _ _ _ (text_verdict _ text.result text.ensures) c.if2.true) ∙ in_turn _ _ _, so.ensures.1)
+    let so = e.read_verdict-so in
+    let text = c.room_count-r in
+    (goes_on _ _ so.result _ so.ensures.0 e.if-so-ne0.false (stops _ _ _ (text_verdict _ text.result text.ensures) c.if-r-ne0.true) ∙ in_turn _ _ _, so.ensures.1)
 
 -- the floor is accepted
-right : (c : tie.Else1) → Accepted c.before.before.before.before.before.before.before.before.before.args.bytes.now
-right c = accepted_of _ _ (zero _ _ c.before.before.before.before.read-verdict.ensures.0 c.if1.false)
+right : (c : tie.Else-so-ne0) → Accepted c.args.bytes.now
+right c = accepted_of _ _ (zero _ _ c.read_verdict-so.ensures.0 c.if-so-ne0.false)
 
-rooms_verdict_requires : tie.Need-rooms-verdict-requires
+rooms_verdict_requires : tie.Need-rooms_verdict-requires
 rooms_verdict_requires c κs = (right c.before.before.before).header
 
-returns_3 : tie.Need-returns-3
+returns_3 : tie.Need-returns
 returns_3 c =
     let d = c.before in
     let e = d.before.before.before in
-    let so = e.before.before.before.before.read-verdict in
-    let text = d.before.before.room-count in
-    let p = parts_of e.before.before.before.before.before.before.before.before.before.args.bytes.now in
-    (goes_on _ _ so.result _ so.ensures.0 e.if1.false (goes_on _ _ _ _ (text_verdict _ text.result text.ensures) d.if2.false (c.rooms-verdict.ensures ∙ ap (λ (n : ℕ). rule42 p n) (text_rooms _ text.result text.ensures))) ∙ in_turn _ _ _, so.ensures.1)
+    let so = e.read_verdict-so in
+    let text = d.room_count-r in
+    let p = parts_of e.args.bytes.now in
+    (goes_on _ _ so.result _ so.ensures.0 e.if-so-ne0.false (goes_on _ _ _ _ (text_verdict _ text.result text.ensures) d.if-r-ne0.false (c.rooms_verdict.ensures ∙ ap (λ (n : ℕ). rule42 p n) (text_rooms _ text.result text.ensures))) ∙ in_turn _ _ _, so.ensures.1)
 
 pub link_check_spec : {M : Type 1} → statement M
 link_check_spec =

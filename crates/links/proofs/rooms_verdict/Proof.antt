@@ -7,11 +7,11 @@ use Rattle.links.specs.Links.{rule42}
 use Rattle.links.proofs.rooms_verdict.Statement.{statement}
 use Rattle.links.proofs.rooms_verdict.Tie as tie
 
-first_astray_requires : tie.Need-first-astray-requires
-first_astray_requires c κs = (c.before.before.requires, c.count_of.ensures.0)
+first_astray_requires : tie.Need-first_astray-i-requires
+first_astray_requires c κs = (c.requires, c.count_of-n.ensures.0)
 
-cast : tie.Need-overflow-cast-first-rule
-cast c = omega (arith, c.before.count_of.ensures.1, lowest_within _ _ _ c.first-astray.ensures)
+cast : tie.Need-overflow_cast-i
+cast c = omega (arith, c.count_of-n.ensures.1, lowest_within _ _ _ c.first_astray-i.ensures)
 
 returns : tie.Need-returns
 unfolding rule42 rule_of_each

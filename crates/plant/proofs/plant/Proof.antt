@@ -10,43 +10,43 @@ use Rattle.plant.proofs.Answers.{little_memory, rule_refuses, room_decides}
 use Rattle.plant.proofs.plant.Statement.{statement}
 use Rattle.plant.proofs.plant.Tie as tie
 
-returns : tie.Need-returns
+returns : tie.Need-returns-then-work-lt-WORK_SIZE
 returns c =
     let s = c.before.before.before.before.before in
     little_memory s.args.bytes.now s.args.work.now s.args.out.now (omega arith) _ c.refused_form.ensures
 
 -- the places that are gone back to: the memory cleared, the rules asked, and the start
-abbrev at_clear : tie.After-struct-known → tie.After-clear-to
+abbrev at_clear : tie.After-struct_known-1 → tie.After-clear_to
 at_clear c = c.before.before.before
 
-abbrev at_rules : tie.After-clear-to → tie.After-bare-verdict
+abbrev at_rules : tie.After-clear_to → tie.After-bare_verdict-so
 at_rules c = c.before.before.before.before
 
-abbrev start : tie.After-bare-verdict → tie.Start
+abbrev start : tie.After-bare_verdict-so → tie.Start
 start c = c.before.before.before.before.before.before
 
-returns_2 : tie.Need-returns-2
+returns_2 : tie.Need-returns-then-so-ne0
 returns_2 c =
     let other = c.before in
     let clear = at_clear other.before in
     let rules = at_rules clear in
     let s = start rules in
-    rule_refuses s.args.bytes.now s.args.work.now s.args.out.now (omega arith) _ _ rules.bare-verdict.ensures.1 clear.clear-to.ensures
-    _ rules.bare-verdict.ensures.0 other.if2.true _ c.refused-form2.ensures
+    rule_refuses s.args.bytes.now s.args.work.now s.args.out.now (omega arith) _ _ rules.bare_verdict-so.ensures.1 clear.clear_to.ensures
+    _ rules.bare_verdict-so.ensures.0 other.if-so-ne0.true _ c.refused_form-then-so-ne0.ensures
 
 -- the floor is one that gets a tree
-right : (c : tie.Else2) → let b = (start (at_rules (at_clear c.before))).args.bytes.now in RightHeader b × Meshed (parts_of b)
-right c = bare_right _ (zero _ _ (at_rules (at_clear c.before)).bare-verdict.ensures.0 c.if2.false)
+right : (c : tie.Else-so-ne0) → let b = (start (at_rules (at_clear c.before))).args.bytes.now in RightHeader b × Meshed (parts_of b)
+right c = bare_right _ (zero _ _ (at_rules (at_clear c.before)).bare_verdict-so.ensures.0 c.if-so-ne0.false)
 
-returns_3 : tie.Need-returns-3
+returns_3 : tie.Need-returns
 returns_3 c =
     let w = c.before.before in
     let other = w.before.before in
     let clear = at_clear other.before in
     let rules = at_rules clear in
     let s = start rules in
-    room_decides s.args.bytes.now s.args.work.now s.args.out.now (omega arith) _ _ rules.bare-verdict.ensures.1 clear.clear-to.ensures
-    _ rules.bare-verdict.ensures.0 other.if2.false _ _ w.write-out.ensures
+    room_decides s.args.bytes.now s.args.work.now s.args.out.now (omega arith) _ _ rules.bare_verdict-so.ensures.1 clear.clear_to.ensures
+    _ rules.bare_verdict-so.ensures.0 other.if-so-ne0.false _ _ w.write_out.ensures
 
 pub plant_spec : {M : Type 1} → statement M
 plant_spec =
