@@ -6,7 +6,7 @@ use mathlib.Core.List.{List, [], ◌∷◌}
 use lib.ListN.{length}
 use lib.Dec.{eqb, ltb}
 use borrow.Author.Tests.{eqb-true, eq-eqb, ltb-false, le-ltb, not-false}
-use Rattle.verdict.specs.Verdict.{accepted, rule, ◌then◌, in_order, FirstBroken}
+use Rattle.verdict.specs.Verdict.{accepted, ◌then◌, in_order, FirstBroken}
 use Rattle.verdict.specs.Memory.{work_size}
 use Rattle.verdict.specs.declared.Answer.{Answer}
 use Rattle.verdict.proofs.Verdict.{then_assoc, then_both, then_last, passed, unbroken, met, rule_proper, order_append, first_broken, first_only}

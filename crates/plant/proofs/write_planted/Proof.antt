@@ -41,16 +41,16 @@ write_head_requires c κs =
     (s.requires.0.0, subst Few (sym s.requires.0.2) (few_numbers (floor s) (sized h)), omega (arith, s.requires.1, length_form (floor s) (sized h)))
 
 -- the header stands in the output, over its old bytes and over itself
-head : (c : tie.After-write_head invariant_loop decreases_loop) → let s = (known c).before in UpTo (floor s) s.args.out.now c.write_head.new.1.1.0 136 0
+head : (c : tie.After-write_head invariant_loop decreases_loop) → let s = (known c).before in UpTo (floor s) s.args.out.now c.write_head.new.out 136 0
 head c = let s = (known c).before in up_start (floor s) (sized (known c)) s.args.out.now s.requires.1 _ s.requires.0.2 (unfold planted in c.write_head.ensures)
 
-again : (c : tie.After-write_head invariant_loop decreases_loop) → let s = (known c).before in UpTo (floor s) c.write_head.new.1.1.0 c.write_head.new.1.1.0 136 0
+again : (c : tie.After-write_head invariant_loop decreases_loop) → let s = (known c).before in UpTo (floor s) c.write_head.new.out c.write_head.new.out 136 0
 again c =
     let s = (known c).before in
     let e = (head c).form in
     record { form = sym (ap (over (form_up_to (floor s) 0)) e ∙ over_over _ _ s.args.out.now (omega arith) ∙ sym e); next = (head c).next }
 
-room : (c : tie.After-write_head invariant_loop decreases_loop) → length (form_of (floor (known c).before)) ≤ length c.write_head.new.1.1.0
+room : (c : tie.After-write_head invariant_loop decreases_loop) → length (form_of (floor (known c).before)) ≤ length c.write_head.new.out
 room c = omega (arith, (known c).requires.1, c.write_head.auto)
 
 loop_holds : tie.Need-loop-k-init invariant_loop decreases_loop
