@@ -1,6 +1,6 @@
 -- What mending a floor gives, as theorems about the call's answers: the result is accepted, mended again it is the same, what stays, how corners
 -- are sewn, and that no transition is lost silently. Assumes nothing.
-use Prim.Native.Nat.{ℕ, zero, suc, ◌+◌, ◌<◌, ◌≤◌}
+use Prim.Native.Nat.{ℕ, zero, suc, ◌<◌, ◌≤◌}
 use native.Mathlib.Omega.{arith}
 use native.Mathlib.Decide.{dec_lt}
 use mathlib.Core.Path.{◌≡◌, refl, sym, ap, subst, ◌∙◌}

@@ -5,7 +5,7 @@ use native.Mathlib.Decide.{dec_lt}
 use mathlib.Core.Path.{◌≡◌, refl, sym, ap, subst, ◌∙◌}
 use mathlib.Core.Logic.{◌⊎◌, inl, inr, ⊎_elim}
 use mathlib.Core.Bool.{true}
-use mathlib.Core.List.{List, []}
+use mathlib.Core.List.{List}
 use lib.ListN.{length, get_or, length-map, get_or-eq_default}
 use lib.Ieee.{eq}
 use Rattle.verdict.specs.Verdict.{accepted}
@@ -43,7 +43,7 @@ use Rattle.rings.proofs.Afresh.{balanced, sound_afresh, looped_afresh}
 use Rattle.rings.proofs.Lengths.{edge_few, end_few}
 use Rattle.kept.specs.Kept.{kept}
 use Rattle.kept.proofs.Entries.{Tells, nothing, shut, leads, many, tells}
-use Rattle.seams.specs.Mended.{each, adjacency_of, entries_for, mended}
+use Rattle.seams.specs.Mended.{adjacency_of, entries_for, mended}
 use Rattle.seams.specs.Mend.{mended_form}
 use Rattle.seams.proofs.Lists.{ones_length, ones_at, ones_words, twos_length, twos_first, twos_second}
 use Rattle.seams.proofs.Relinked.{Fits, whole_re, finite_re, painted_re, nodes_re, tree_re, boxes_re}

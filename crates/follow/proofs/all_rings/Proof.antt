@@ -56,7 +56,7 @@ loop_again : tie.Need-loop-c-preserved invariant_loop decreases_loop
 loop_again c =
     let i = c.loop-c.invariant in
     let turn = c.turn-so in
-    (omega arith, turn.auto.so ∙ i.1, turn.ensures.0, ready_same _ _ i.3 _ turn.auto.so turn.ensures.1, top_same _ _ turn.ensures.1 ∙ i.4)
+    (omega arith, turn.auto.work ∙ i.1, turn.ensures.0, ready_same _ _ i.3 _ turn.auto.work turn.ensures.1, top_same _ _ turn.ensures.1 ∙ i.4)
 
 same_length : tie.Need-shape_of-work invariant_loop decreases_loop
 same_length c = c.loop-c.invariant.1 ∙ (at_chain c.before).chain_all.auto.work

@@ -28,7 +28,7 @@ from_of_requires : tie.Need-from_of-start-requires
 from_of_requires c κs = let s = c.before.before.before.before in asked_ends _ _ s.requires.0 s.args.h s.requires.1.1
 
 u16_at_requires : tie.Need-u16_at-head-requires
-u16_at_requires c κs = omega (arith, low c.before, c.requires.0.long)
+u16_at_requires c κs = omega (arith, low c, c.requires.0.long)
 
 mul_put_u16 : tie.Need-overflow_mul-h
 mul_put_u16 c = omega (arith, few c.before.before.before.before.before.before.before)
@@ -40,24 +40,20 @@ put_u16_requires : tie.Need-put_u16-requires
 put_u16_requires c κs = let s = c.before.before.before.before.before.before.before in omega (arith, few s, s.requires.0.long)
 
 put_u16_requires_2 : tie.Need-put_u16-requires-then-is_border
-put_u16_requires_2 c κs = omega (arith, low c.before.before.before.before.before.before.before, c.requires.0.long, c.put_u16.auto.0)
+put_u16_requires_2 c κs = omega (arith, low c.before.before.before.before.before.before, c.requires.0.long, c.put_u16.auto.bytes)
 
 returns : tie.Need-returns-then-is_border
 returns c =
-    let second = c.before.before in
-    let first = second.before.before.before.before in
-    let read = first.before.before in
-    let from = read.before.before in
-    let test = from.before in
-    let s = test.before.before in
-    let q = s.requires in
-    let b = s.args.bytes.now in
-    let m = s.args.work.now in
-    let is = sym test.is_border.ensures ∙ test.if-is_border.true in
-    let at = from.from_of-start.ensures.0 in
-    let most = head_low (web_in b) m s.args.h (small s) q.0.long q.1.1 is q.1.0 in (
-      chained_as (web_in b) m s.args.h (small s) q.0.long q.1.1 is q.1.0 from.from_of-start.result _ _ _ at read.u16_at-head.ensures.0 first.put_u16.ensures second.put_u16-then-is_border.ensures,
-      ready_chained b m _ _ s.args.h from.from_of-start.result _ q.0 q.1.1 is (low from) (omega (arith, most, read.u16_at-head.ensures.0, ap (head_in m) at)) first.put_u16.ensures second.put_u16-then-is_border.ensures,
+    let from = c.before.before.before.before.before.before.before.before.before in
+    let s = from.before.before.before.before.before in
+    let q = c.requires in
+    let b = c.args.bytes.now in
+    let m = c.args.work.now in
+    let is = sym c.is_border.ensures ∙ c.if-is_border.true in
+    let at = c.from_of-start.ensures.0 in
+    let most = head_low (web_in b) m c.args.h (small s) q.0.long q.1.1 is q.1.0 in (
+      chained_as (web_in b) m c.args.h (small s) q.0.long q.1.1 is q.1.0 c.from_of-start.result _ _ _ at c.u16_at-head.ensures.0 c.put_u16.ensures c.put_u16-then-is_border.ensures,
+      ready_chained b m _ _ c.args.h c.from_of-start.result _ q.0 q.1.1 is (low from) (omega (arith, most, c.u16_at-head.ensures.0, ap (head_in m) at)) c.put_u16.ensures c.put_u16-then-is_border.ensures,
     )
 
 returns_2 : tie.Need-returns-else-is_border

@@ -29,7 +29,7 @@ abbrev at_from : tie.At-loop-end invariant_loop decreases_loop → tie.After-fro
 at_from l = (at_step l).before.before
 
 abbrev start : tie.At-loop-end invariant_loop decreases_loop → tie.Start invariant_loop decreases_loop
-start l = (at_from l).before.before.before.before
+start l = (at_from l).before.before.before
 
 small : (s : tie.Start invariant_loop decreases_loop) → Small (web_in s.args.bytes.now)
 small s = small_of _ s.args.work.now s.requires.0
@@ -49,12 +49,10 @@ add_n c = omega (arith, (opening c.before.before.before.before.before.before.bef
 
 loop_holds : tie.Need-loop-end-init invariant_loop decreases_loop
 loop_holds c =
-    let first = c.before.before in
-    let from = first.before.before in
-    let s = from.before.before.before in
+    let s = c.before.before.before.before.before.before.before in
     let q = s.requires in (
-      ready_same _ _ q.0 _ first.step-end.auto.work first.step-end.ensures.1.same,
-      loop_first (web_in s.args.bytes.now) (small s) s.args.work.now s.args.i s.args.j s.args.h q.1.0 q.1.1.1 q.1.1.0 _ _ _ first.step-end.ensures.1 from.from_of-start.ensures.0 first.step-end.ensures.0,
+      ready_same _ _ q.0 _ c.step-end.auto.work c.step-end.ensures.1.same,
+      loop_first (web_in s.args.bytes.now) (small s) s.args.work.now s.args.i s.args.j s.args.h q.1.0 q.1.1.1 q.1.1.0 _ _ _ c.step-end.ensures.1 c.from_of-start.ensures.0 c.step-end.ensures.0,
     )
 
 u16_at_requires : tie.Need-u16_at-g-requires invariant_loop decreases_loop
@@ -69,33 +67,32 @@ open_still c = ne_eqb _ _ c.loop-end-test.true
 
 step_requires_2 : tie.Need-step-end-requires-in-loop-end invariant_loop decreases_loop
 step_requires_2 c κs =
-    let i = c.before.before.before in
+    let i = c.before.before in
     let l = i.before in
     let s = start l in
     let r = l.loop-end in (
       r.invariant.0,
-      loop_turn (web_in s.args.bytes.now) (small s) _ r.work-1 s.args.i (at_from l).from_of-start.result r.end r.n r.invariant.1 (open_still i) c.u16_at-g.result c.u16_at-g.ensures.0,
+      loop_turn (web_in s.args.bytes.now) (small s) _ r.work s.args.i (at_from l).from_of-start.result r.end r.n r.invariant.1 (open_still i) c.u16_at-g.result c.u16_at-g.ensures.0,
     )
 
 -- what a turn leaves
 next_turn : (c : tie.After-step-end-in-loop-end invariant_loop decreases_loop)
-    → let l = c.before.before.before.before.before in
-    Loop (web_in (start l).args.bytes.now) (at_step l).step-end.new.1.0 c.step-end-in-loop-end.new.1.0 (start l).args.i (at_from l).from_of-start.result c.step-end-in-loop-end.result (l.loop-end.n + 1)
-    × (left (web_in (start l).args.bytes.now) (edges_in c.step-end-in-loop-end.new.1.0 (l.loop-end.n + 1)) < left (web_in (start l).args.bytes.now) (edges_in l.loop-end.work l.loop-end.n))
+    → let l = c.before.before.before.before in
+    Loop (web_in (start l).args.bytes.now) (at_step l).step-end.new.work c.step-end-in-loop-end.new.work (start l).args.i (at_from l).from_of-start.result c.step-end-in-loop-end.result (l.loop-end.n + 1)
+    × (left (web_in (start l).args.bytes.now) (edges_in c.step-end-in-loop-end.new.work (l.loop-end.n + 1)) < left (web_in (start l).args.bytes.now) (edges_in l.loop-end.work l.loop-end.n))
 next_turn c =
-    let i = c.before.before.before.before in
+    let i = c.before.before.before in
     let l = i.before in
     let s = start l in
     let r = l.loop-end in
     let head = c.u16_at-g in
-    loop_next (web_in s.args.bytes.now) (small s) _ r.work-1 s.args.i (at_from l).from_of-start.result r.end r.n r.invariant.1 (open_still i)
-    head.result c.step-end-in-loop-end.result c.step-end-in-loop-end.new.1.0 head.ensures.0 c.step-end-in-loop-end.ensures.1 c.step-end-in-loop-end.ensures.0 c.step-end-in-loop-end.auto.1.0
+    loop_next (web_in s.args.bytes.now) (small s) _ r.work s.args.i (at_from l).from_of-start.result r.end r.n r.invariant.1 (open_still i)
+    head.result c.step-end-in-loop-end.result c.step-end-in-loop-end.new.work head.ensures.0 c.step-end-in-loop-end.ensures.1 c.step-end-in-loop-end.ensures.0 c.step-end-in-loop-end.auto.work
 
 add_n_2 : tie.Need-overflow_add-n-in-loop-end invariant_loop decreases_loop
 add_n_2 c =
-    let l = c.before.before.before.before.before.before.before in
-    let r = l.loop-end in
-    omega (arith, r.invariant.1.going.room, length_edges r.work-1 r.n, (small (start l)).few)
+    let r = c.loop-end in
+    omega (arith, r.invariant.1.going.room, length_edges r.work r.n, (small c.before.before.before.before.before.before.before.before.before.before.before.before.before.before).few)
 
 loop_less : tie.Need-loop-end-smaller invariant_loop decreases_loop
 loop_less c = (next_turn c.before.before).1
@@ -113,7 +110,7 @@ returns c =
     let l = c.before in
     let s = start l in
     let r = l.loop-end in
-    loop_done (web_in s.args.bytes.now) (small s) _ r.work-1 s.args.i _ r.end r.n r.invariant.1 s.args.work.now s.args.h c.loop-end-test.false (at_step l).step-end.ensures.1
+    loop_done (web_in s.args.bytes.now) (small s) _ r.work s.args.i _ r.end r.n r.invariant.1 s.args.work.now s.args.h c.loop-end-test.false (at_step l).step-end.ensures.1
 
 pub ring_from_spec : {M : Type 1} → statement M
 ring_from_spec =

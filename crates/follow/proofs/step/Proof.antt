@@ -47,15 +47,10 @@ put_u16_requires_2 c κs =
 
 returns : tie.Need-returns
 returns c =
-    let second = c.before.before in
-    let first = second.before.before.before.before in
-    let link = first.before.before in
-    let end = link.before.before in
-    let start = end in
-    let s = start.before.before.before in (
-      end.to_of-end.ensures.0,
-      stepped_as (web_in s.args.bytes.now) s.args.work.now s.args.i s.args.h (small s) s.requires.0.long s.requires.1 start.from_of-start.result _ _ _ start.from_of-start.ensures.0
-          (ap (λ (x : ℕ). x - loose) link.u16_at-behind.ensures.0) first.put_u16.ensures second.put_u16-2.ensures,
+    let s = c.before.before.before.before.before.before.before.before.before.before.before.before.before in (
+      c.to_of-end.ensures.0,
+      stepped_as (web_in s.args.bytes.now) s.args.work.now s.args.i s.args.h (small s) s.requires.0.long s.requires.1 c.from_of-start.result _ _ _ c.from_of-start.ensures.0
+          (ap (λ (x : ℕ). x - loose) c.u16_at-behind.ensures.0) c.put_u16.ensures c.put_u16-2.ensures,
     )
 
 pub step_spec : {M : Type 1} → statement M

@@ -16,11 +16,11 @@ small : (s : tie.Start) → Small (web_in s.args.bytes.now)
 small s = small_of _ s.args.work.now s.requires.0
 
 -- the half-edge is free
-unspent : (c : tie.Then-is_free) → let s = c.before.before.before.before in unused (web_in s.args.bytes.now) (edges_in s.args.work.now s.args.so.edges) s.args.c ≡ true
+unspent : (c : tie.Then-is_free) → unused (web_in c.args.bytes.now) (edges_in c.args.work.now c.args.so.edges) c.args.c ≡ true
 unspent c = sym c.is_free.ensures ∙ c.if-is_free.true
 
 -- it is not
-spent : (c : tie.Else-is_free) → let s = c.before.before.before.before in unused (web_in s.args.bytes.now) (edges_in s.args.work.now s.args.so.edges) s.args.c ≡ false
+spent : (c : tie.Else-is_free) → unused (web_in c.args.bytes.now) (edges_in c.args.work.now c.args.so.edges) c.args.c ≡ false
 spent c = sym c.is_free.ensures ∙ c.if-is_free.false
 
 ring_from_requires : tie.Need-ring_from-n-requires
@@ -33,12 +33,9 @@ add_t16 c =
 
 returns : tie.Need-returns-then-is_free
 returns c =
-    let end = c.before.before in
-    let rung = end.before.before.before.before in
-    let free = rung.before.before in
-    let s = free.before.before.before.before in
-    let r = rung.ring_from-n in
-    passed_ring (web_in s.args.bytes.now) s.args.work.now _ s.args.so.edges s.args.so.rings s.args.c r.result (small s) (omega (arith, s.requires.0.long, r.auto.work)) s.requires.1.0 s.requires.1.1 (unspent free) r.ensures _ end.mark_end.ensures
+    let s = c.before.before.before.before.before.before.before.before.before.before.before.before in
+    let r = c.ring_from-n in
+    passed_ring (web_in s.args.bytes.now) s.args.work.now _ s.args.so.edges s.args.so.rings s.args.c r.result (small s) (omega (arith, s.requires.0.long, r.auto.work)) s.requires.1.0 s.requires.1.1 (unspent c.before.before.before.before.before.before.before.before) r.ensures _ c.mark_end.ensures
 
 returns_2 : tie.Need-returns
 returns_2 c =

@@ -3,7 +3,6 @@ use borrow.Author.Rules.{rules}
 use native.Mathlib.Omega.{arith}
 use Prim.Native.Nat.{◌-◌, ◌<◌, ◌≤◌}
 use mathlib.Core.Path.{◌∙◌}
-use mathlib.Core.Logic.{⊎_elim}
 use lib.ListN.{length}
 use Rattle.verdict.specs.Memory.{work_size}
 use Rattle.tables.specs.Parts.{Parts, parts_of}
@@ -12,6 +11,7 @@ use Rattle.corners.specs.Corners.{recornered}
 use Rattle.corners.proofs.Corners.{as_many}
 use Rattle.kept.proofs.Notes.{few_halves, Clearing, clear_start, clear_done, clear_border, clear_inside}
 use Rattle.kept.proofs.clear_notes.Statement.{statement}
+use Rattle.kept.proofs.clear_notes.Lts.{then-u16_at-ge-LOOSE, else-u16_at-ge-LOOSE}
 use Rattle.kept.proofs.clear_notes.Tie as tie
 
 abbrev invariant_loop : tie.invariant-loop-h
@@ -38,16 +38,15 @@ room c = (omega (arith, c.halves_of-n.ensures.1), omega (arith, (start c.before)
 
 loop_again : tie.Need-loop-h-preserved invariant_loop decreases_loop
 loop_again c =
-    let read = c.before in
-    let there = read.before in
+    let there = c.before.before in
     let l = there.before in
     let s = start l in
     let few = few_halves s.args.bytes.now s.requires.0.0 in
-    let is = read.u16_at.ensures.0 in
-    ⊎_elim
-    (λ w. (omega arith, clear_border _ _ few _ l.loop-h.work _ l.loop-h.invariant.1 s.requires.1 (under there) _ s.requires.0.1 (omega (arith, w.0.true, is)) (w.5 ∙ w.2.ensures)))
-    (λ w. (omega arith, clear_inside _ _ few _ l.loop-h.work _ l.loop-h.invariant.1 s.requires.1 (under there) _ (omega (arith, w.0.left, is)) w.1))
-    c.if-u16_at-ge-LOOSE.branch
+    let is = c.u16_at.ensures.0 in
+    elim c.if-u16_at-ge-LOOSE.branch [
+      | then-u16_at-ge-LOOSE w ↦ (omega arith, clear_border _ _ few _ l.loop-h.work _ l.loop-h.invariant.1 s.requires.1 (under there) _ s.requires.0.1 (omega (arith, w.if-u16_at-ge-LOOSE.true, is)) (w.work-is ∙ w.put_u16.ensures))
+      | else-u16_at-ge-LOOSE w ↦ (omega arith, clear_inside _ _ few _ l.loop-h.work _ l.loop-h.invariant.1 s.requires.1 (under there) _ (omega (arith, w.if-u16_at-ge-LOOSE.false, is)) w.work-is)
+    ]
 
 same_length : tie.Need-shape_of-work invariant_loop decreases_loop
 same_length c = c.loop-h.invariant.1.long

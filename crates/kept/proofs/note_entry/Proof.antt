@@ -30,9 +30,8 @@ u16_at_requires c κs = let h = c.before in omega (arith, low h, h.requires.0.1)
 
 noted_more_requires : tie.Need-noted_more-y-requires
 noted_more_requires c κs =
-    let t = c.before.before in
-    let s = t.before.before.before.before.before in
-    (c.u16_at-x.ensures.1, rw t.transition_of-t.ensures (valid_parts (parts s) s.args.i (valid t.before.before)).1)
+    let h = c.before.before in
+    (c.u16_at-x.ensures.1, rw c.transition_of-t.ensures (valid_parts (parts h.before.before.before.before.before) c.args.i (valid h.before)).1)
 
 put_u16_requires : tie.Need-put_u16-requires
 put_u16_requires c κs =
@@ -40,16 +39,12 @@ put_u16_requires c κs =
 
 returns : tie.Need-returns-then-is_valid
 returns c =
-    let put = c.before.before in
-    let more = put.before.before in
-    let read = more.before in
-    let t = read.before.before in
-    let h = t in
+    let h = c.before.before.before.before.before.before.before in
     let s = h.before.before.before.before.before in
     let w = s.args.work.now in
-    let is = put.put_u16.ensures in (
+    let is = c.put_u16.ensures in (
       noted_valid _ _ _ w s.requires.1 (few_halves _ s.requires.0.0) (as_many (parts s)) s.requires.0.1 (valid h.before) _ _ _ _ _
-          h.edge_of-h.ensures t.transition_of-t.ensures read.u16_at-x.ensures.0 more.noted_more-y.ensures.0 more.noted_more-y.ensures.1 is,
+          c.edge_of-h.ensures c.transition_of-t.ensures c.u16_at-x.ensures.0 c.noted_more-y.ensures.0 c.noted_more-y.ensures.1 is,
       (rw is (note_top w _ _ (low h)), rw is (note_below w _ _)),
     )
 
@@ -59,4 +54,4 @@ returns_2 c =
     (noted_invalid _ _ _ _ s.requires.1 (sym c.is_valid.ensures ∙ c.if-is_valid.false), (refl, refl))
 
 pub note_entry_spec : {M : Type 1} → statement M
-note_entry_spec = tie.close (tie.spec (λ c κs. search rules) (λ c κs. search rules) (λ c κs. search rules) (λ c. omega (arith, low c.before)) (λ c. omega (arith, low c.before)) u16_at_requires noted_more_requires (λ c. omega (arith, low c.before.before.before.before.before)) (λ c. omega (arith, low c.before.before.before.before.before)) put_u16_requires (search rules) returns returns_2)
+note_entry_spec = tie.close (tie.spec (λ c κs. search rules) (λ c κs. search rules) (λ c κs. search rules) (λ c. omega (arith, low c.before)) (λ c. omega (arith, low c.before)) u16_at_requires noted_more_requires (λ c. omega (arith, low c.before.before.before.before)) (λ c. omega (arith, low c.before.before.before.before)) put_u16_requires (search rules) returns returns_2)

@@ -44,7 +44,7 @@ few : (c : tie.In-loop-h invariant_loop decreases_loop) → c.loop-h.h < 12288
 few c = let s = start c.before in omega (arith, inside c, few_walkable s.args.bytes.now s.requires.0.0)
 
 long : (l : tie.At-loop-h invariant_loop decreases_loop) → work_size ≤ length l.loop-h.work
-long l = omega (arith, (start l).requires.1.0, l.loop-h.invariant.2, (at_clear l).clear_to.auto.0)
+long l = omega (arith, (start l).requires.1.0, l.loop-h.invariant.2, (at_clear l).clear_to.auto.work)
 
 -- clearing and chaining keep the map
 kept : (l : tie.At-loop-h invariant_loop decreases_loop) → SameTop l.loop-h.work (start l).args.work.now
@@ -62,50 +62,46 @@ loop_holds c =
 
 from_of_requires : tie.Need-from_of-a-requires invariant_loop decreases_loop
 from_of_requires c κs =
-    let i = c.before in
-    let s = (start i.before).requires.0 in
-    ((s.0, s.1, inside i), (long i.before, mapped i.before))
+    let s = c.requires.0 in
+    ((s.0, s.1, inside c), (long c.before, mapped c.before))
 
 to_of_requires : tie.Need-to_of-b-requires invariant_loop decreases_loop
 to_of_requires c κs =
-    let i = c.before.before.before in
-    let s = (start i.before).requires.0 in
+    let i = c.before in
+    let s = c.requires.0 in
     ((s.0, s.1, inside i), (long i.before, mapped i.before))
 
 find_run_requires : tie.Need-find_run-requires invariant_loop decreases_loop
 find_run_requires c κs =
-    let i = c.before.before.before.before.before in
+    let i = c.before.before in
     let l = i.before in
-    let s = (start l).requires.0 in
+    let s = c.requires.0 in
     ((s.0, s.1, omega (arith, inside i), c.from_of-a.ensures.1, c.to_of-b.ensures.1), ((long l, mapped l), l.loop-h.invariant.3))
 
 returns : tie.Need-returns-then-find_run-gt0 invariant_loop decreases_loop
 returns c =
-    let run = c.before in
-    let i = run.before.before.before.before.before.before in
+    let i = c.before.before.before.before in
     let l = i.before in
-    let twice = repeat_found _ _ _ _ _ run.from_of-a.ensures.0 run.to_of-b.ensures.0 run.find_run.ensures c.if-find_run-gt0.true in
+    let twice = repeat_found _ _ _ _ _ c.from_of-a.ensures.0 c.to_of-b.ensures.0 c.find_run.ensures c.if-find_run-gt0.true in
     (sym (lowest_hit _ _ _ l.loop-h.invariant.1 twice (inside i)), (l.loop-h.invariant.3, kept l))
 
 put_last_requires : tie.Need-put_last-requires invariant_loop decreases_loop
 put_last_requires c κs =
-    let i = c.before.before.before.before.before.before.before.before.before in
+    let i = c.before.before.before.before.before.before in
     (c.run_chain.ensures.1, omega (arith, few i, long i.before))
 
 loop_again : tie.Need-loop-h-preserved invariant_loop decreases_loop
 loop_again c =
-    let put = c.before.before in
-    let run = put.before.before.before.before in
-    let i = run.before.before.before in
+    let i = c.before.before.before.before.before.before.before.before.before in
     let l = i.before in
-    let v = put.run_chain.ensures in
-    let a = run.from_of-a.ensures.0 in
-    let b = run.to_of-b.ensures.0 in (
+    let v = c.run_chain.ensures in
+    let a = c.from_of-a.ensures.0 in
+    let b = c.to_of-b.ensures.0 in (
       omega arith,
-      lowest_more _ _ l.loop-h.invariant.1 (repeat_not _ _ _ _ _ a b run.find_run.ensures put.if-find_run-gt0.false),
-      put.put_last.auto.work ∙ l.loop-h.invariant.2,
-      half_chained run_chains run_chain _ _ _ _ _ _ _ (few i) (omega (arith, few i, long l)) l.loop-h.invariant.3 a b v put.put_last.ensures,
-      top_last _ _ _ _ v.1 (few i) put.put_last.ensures ∙ l.loop-h.invariant.4,
+      lowest_more _ _ l.loop-h.invariant.1 (repeat_not _ _ _ _ _ a b c.find_run.ensures c.if-find_run-gt0.false),
+      c.put_last.auto.work ∙ l.loop-h.invariant.2,
+      half_chained run_chains run_chain _ _ _ _ _ _ _ (few i) (omega (arith, few i, long l)) l.loop-h.invariant.3 a b v c.put_last.ensures,
+      top_last _ _ _ _ v.1 (few i) c.put_last.ensures ∙ l.loop-h.invariant.4,
     )
 
 returns_2 : tie.Need-returns invariant_loop decreases_loop

@@ -57,16 +57,14 @@ put_u16_requires c κs = let i = c.before.before in omega (arith, inside i, few 
 
 loop_again : tie.Need-loop-h-preserved invariant_loop decreases_loop
 loop_again c =
-    let put = c.before.before in
-    let mate = put.before.before in
-    let i = mate.before in
+    let i = c.before.before.before.before.before in
     let l = i.before in
     let small : l.loop-h.h < 12288 = omega (arith, inside i, few l) in (
       omega arith,
-      put.put_u16.auto.bytes ∙ l.loop-h.invariant.1,
-      mated_more _ _ _ _ small put.put_u16.ensures _ (long l) mate.mate_of-mate.ensures l.loop-h.invariant.2,
-      chains_mate _ _ _ _ small put.put_u16.ensures _ _ (few l) l.loop-h.invariant.3,
-      top_mate _ _ _ _ small put.put_u16.ensures ∙ l.loop-h.invariant.4,
+      c.put_u16.auto.bytes ∙ l.loop-h.invariant.1,
+      mated_more _ _ _ _ small c.put_u16.ensures _ (long l) c.mate_of-mate.ensures l.loop-h.invariant.2,
+      chains_mate _ _ _ _ small c.put_u16.ensures _ _ (few l) l.loop-h.invariant.3,
+      top_mate _ _ _ _ small c.put_u16.ensures ∙ l.loop-h.invariant.4,
     )
 
 returns : tie.Need-returns invariant_loop decreases_loop
@@ -75,4 +73,4 @@ returns c =
     (mated_all _ _ _ (omega (arith, c.loop-h-test.false, l.halves_of-n.ensures.0, halves_same (parts l))) l.loop-h.invariant.2, l.loop-h.invariant.4)
 
 pub put_mates_spec : {M : Type 1} → statement M
-put_mates_spec = tie.close (tie.spec invariant_loop decreases_loop (λ c κs. search rules) loop_holds mate_of_requires (λ c. let i = c.before.before in omega (arith, inside i, few i.before)) (λ c. let i = c.before.before.before in omega (arith, inside i, few i.before)) put_u16_requires (search rules) (search rules) loop_again (search rules) returns)
+put_mates_spec = tie.close (tie.spec invariant_loop decreases_loop (λ c κs. search rules) loop_holds mate_of_requires (λ c. let i = c.before.before in omega (arith, inside i, few i.before)) (λ c. let i = c.before.before in omega (arith, inside i, few i.before)) put_u16_requires (search rules) (search rules) loop_again (search rules) returns)

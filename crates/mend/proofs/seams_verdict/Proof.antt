@@ -10,22 +10,22 @@ use Rattle.mend.proofs.seams_verdict.Statement.{statement}
 use Rattle.mend.proofs.seams_verdict.Tie as tie
 
 -- rules 1 to 15 are met
-early : (c : tie.Else1) → Early c.before.before.before.before.before.before.before.before.args.bytes.now
-early c = early_of _ (zero _ _ c.before.before.before.before.rules-1-to-15.ensures.0 c.if1.false)
+early : (c : tie.Else-so-ne0) → Early c.args.bytes.now
+early c = early_of _ (zero _ _ c.rules_1_to_15-so.ensures.0 c.if-so-ne0.false)
 
-returns : tie.Need-returns
+returns : tie.Need-returns-then-so-ne0
 returns c =
-    let a = c.before.before.before.before.rules-1-to-15 in
-    (stops _ _ _ a.ensures.0 c.if1.true, (a.ensures.1, λ z. absurd (c.if1.true z)))
+    let a = c.rules_1_to_15-so in
+    (stops _ _ _ a.ensures.0 c.if-so-ne0.true, (a.ensures.1, λ z. absurd (c.if-so-ne0.true z)))
 
-corners_verdict_requires : tie.Need-corners-verdict-requires
+corners_verdict_requires : tie.Need-corners_verdict-requires
 corners_verdict_requires c κs =
     let a = c.before.before.before.before.before in
     let s = a.before.before.before.before in
     let e = early c.before in
-    (e.header, e.mesh.finite, e.mesh.cornered, omega (arith, s.requires, a.rules-1-to-15.auto.1.0))
+    (e.header, e.mesh.finite, e.mesh.cornered, omega (arith, s.requires, a.rules_1_to_15-so.auto.work))
 
-returns_2 : tie.Need-returns-2
+returns_2 : tie.Need-returns
 returns_2 c =
     let v = c.before.before in
     let other = v.before.before in
@@ -33,11 +33,11 @@ returns_2 c =
     let s = a.before.before.before.before in
     let b = s.args.bytes.now in
     let e = early other in
-    let so = v.corners-verdict.ensures in (
-      goes_on _ _ _ _ a.rules-1-to-15.ensures.0 other.if1.false (so.0 ∙ sym (run_again b e _)),
+    let so = v.corners_verdict.ensures in (
+      goes_on _ _ _ _ a.rules_1_to_15-so.ensures.0 other.if-so-ne0.false (so.0 ∙ sym (run_again b e _)),
       (
-        so.1.0 ∙ a.rules-1-to-15.ensures.1,
-        λ z. (ready_of b _ e (omega (arith, s.requires, a.rules-1-to-15.auto.1.0, v.corners-verdict.auto.1.0)) (zero _ _ so.0 z) (so.1.1 z), e.mesh),
+        so.1.0 ∙ a.rules_1_to_15-so.ensures.1,
+        λ z. (ready_of b _ e (omega (arith, s.requires, a.rules_1_to_15-so.auto.work, v.corners_verdict.auto.work)) (zero _ _ so.0 z) (so.1.1 z), e.mesh),
       ),
     )
 

@@ -6,9 +6,9 @@ use Rattle.mend.proofs.Steps.{worked_of, edge_number}
 use Rattle.mend.proofs.work_out.Statement.{statement}
 use Rattle.mend.proofs.work_out.Tie as tie
 
-note_entries_requires : tie.Need-note-entries-requires
+note_entries_requires : tie.Need-note_entries-requires
 note_entries_requires c κs =
-    let r = c.before.before.before.all_rings_lem.ensures.1.1.1.0 in
+    let r = c.all_rings-c.ensures.1.1.1.0 in
     ((r.right, r.long), r.mated)
 
 returns : tie.Need-returns
@@ -17,9 +17,9 @@ returns c =
     let ring = note.before.before.before.before in
     let s = ring.before.before.before.before in
     let b = s.args.bytes.now in
-    let all = ring.all_rings_lem.ensures in
-    let memory = note.note-entries.ensures.1 in (
-      worked_of b _ _ _ all.1.1.0.1 memory.1 all.1.1.1.0 all.0 all.1.0 note.note-entries.auto.1.0 memory.0 note.note-entries.ensures.0,
+    let all = ring.all_rings-c.ensures in
+    let memory = note.note_entries.ensures.1 in (
+      worked_of b _ _ _ all.1.1.0.1 memory.1 all.1.1.1.0 all.0 all.1.0 note.note_entries.auto.work memory.0 note.note_entries.ensures.0,
       ((edge_number b _ _ all.0, all.1.1.0.0), top_past _ _ (memory.0 ∙ all.1.1.1.1)),
     )
 

@@ -16,31 +16,31 @@ use Rattle.mend.proofs.write_both.Statement.{statement}
 use Rattle.mend.proofs.write_both.Tie as tie
 
 -- the places that are gone back to: the rings followed, and the start
-abbrev at_work : tie.After-start-by → tie.After-work-out
+abbrev at_work : tie.After-start_by-length → tie.After-work_out-c
 at_work c = c.before.before.before.before
 
-abbrev start : tie.After-work-out → tie.Start
+abbrev start : tie.After-work_out-c → tie.Start
 start c = c.before.before.before.before.before.before
 
 -- the mended parts are of the right sizes
-sized : (c : tie.After-work-out) → Sized (mended (parts_of (start c).args.bytes.now))
+sized : (c : tie.After-work_out-c) → Sized (mended (parts_of (start c).args.bytes.now))
 sized c =
     let s = start c in
     let known = c.before.before.before.before.before in
-    sized_mended s.args.bytes.now s.args.work.now (record { byte = λ i. omega (arith, known.shared-slice-known.given i) }) s.requires.0 s.requires.1
+    sized_mended s.args.bytes.now s.args.work.now (record { byte = λ i. omega (arith, known.shared_slice_known-1.given i) }) s.requires.0 s.requires.1
 
-start_by_requires : tie.Need-start-by-requires
+start_by_requires : tie.Need-start_by-length-requires
 start_by_requires c κs =
     let w = c.before.before.before in
-    (few_mended (start w).args.bytes.now (sized w) _ c.mended-numbers.ensures, omega arith)
+    (few_mended (start w).args.bytes.now (sized w) _ c.mended_numbers-n.ensures, omega arith)
 
 -- the form is as long as the code found, and so is the list
-long : (c : tie.After-start-by) → c.start_by_lem.result ≡ length (mended_form (start (at_work c)).args.bytes.now)
-long c = form_size (start (at_work c)).args.bytes.now (sized (at_work c)) _ c.before.mended-numbers.ensures _ c.start_by_lem.ensures.0
+long : (c : tie.After-start_by-length) → c.start_by-length.result ≡ length (mended_form (start (at_work c)).args.bytes.now)
+long c = form_size (start (at_work c)).args.bytes.now (sized (at_work c)) _ c.mended_numbers-n.ensures _ c.start_by-length.ensures.0
 
-listed : (c : tie.After-list-length) → c.list_length.result ≡ length (mended_list (start (at_work c.before.before.before)).args.bytes.now)
+listed : (c : tie.After-list_length-listed) → c.list_length-listed.result ≡ length (mended_list (start (at_work c.before.before)).args.bytes.now)
 unfolding mended_list
-listed c = c.list_length.ensures.0
+listed c = c.list_length-listed.ensures.0
 
 -- what the writers ask and tell, by the call's names for it
 room_told : (b : List ℕ) (n : ℕ) → length (mended_form b) ≤ n → length (form_of (mended (parts_of b))) ≤ n
@@ -55,54 +55,42 @@ list_told : (b o : List ℕ) {o₁ : List ℕ} → o₁ ≡ over (changes (parts
 unfolding mended_list
 list_told b o e = e
 
-returns : tie.Need-returns
+-- the place after the form's length, from the one after the list's
+abbrev at_form : tie.After-list_length-listed → tie.After-start_by-length
+at_form c = c.before.before
+
+returns : tie.Need-returns-then-out-length
 returns c =
     let l = c.before.before in
     let w = at_work l in
     let s = start w in
     let b = s.args.bytes.now in
-    let v = no_room b (length s.args.out.now) (length s.args.list.now) (omega (arith, long l, c.before.if1.true)) in
-    let k = refused_room _ b s.args.out.now s.args.list.now _ v c.refused-mending.ensures in
-    (k.0, (w.work-out.ensures.1.1, k.1))
+    let v = no_room b (length s.args.out.now) (length s.args.list.now) (omega (arith, long l, c.if-out-length.true)) in
+    let k = refused_room _ b s.args.out.now s.args.list.now _ v c.refused_mending.ensures in
+    (k.0, (w.work_out-c.ensures.1.1, k.1))
 
-returns_2 : tie.Need-returns-2
+returns_2 : tie.Need-returns-then-list-listed
 returns_2 c =
     let n = c.before.before in
-    let other = n.before.before in
-    let l = other.before in
-    let w = at_work l in
-    let s = start w in
-    let b = s.args.bytes.now in
-    let v = no_list b (length s.args.out.now) (length s.args.list.now) (omega (arith, long l, other.if1.false)) (omega (arith, listed n, c.before.if2.true)) in
-    let k = refused_room _ b s.args.out.now s.args.list.now _ v c.refused-mending2.ensures in
-    (k.0, (w.work-out.ensures.1.1, k.1))
+    let l = at_form n in
+    let b = c.args.bytes.now in
+    let v = no_list b (length c.args.out.now) (length c.args.list.now) (omega (arith, long l, c.if-out-length.false)) (omega (arith, listed n, c.if-list-listed.true)) in
+    let k = refused_room _ b c.args.out.now c.args.list.now _ v c.refused_mending-then-list-listed.ensures in
+    (k.0, (c.work_out-c.ensures.1.1, k.1))
 
--- where both fit, the place after the list's length and the one after the form's
-abbrev at_list : tie.After-write-mended-arg2 → tie.After-list-length
-at_list c = c.before.before.before
-
-abbrev at_form : tie.After-list-length → tie.After-start-by
-at_form c = c.before.before.before
-
-write_mended_requires : tie.Need-write-mended-requires
+write_mended_requires : tie.Need-write_mended-requires
 write_mended_requires c κs =
-    let n = at_list c in
-    let l = at_form n in
-    let w = at_work l in
-    ((w.work-out.ensures.0, l.before.mended-numbers.ensures, sized w), room_told (start w).args.bytes.now _ (omega (arith, long l, n.before.before.if1.left)))
+    let l = at_form c.before.before in
+    ((c.work_out-c.ensures.0, c.mended_numbers-n.ensures, sized (at_work l)), room_told c.args.bytes.now _ (omega (arith, long l, c.if-out-length.false)))
 
-returns_3 : tie.Need-returns-3
+returns_3 : tie.Need-returns
 returns_3 c =
-    let t = c.before.before in
-    let f = t.before.before.before.before.before in
-    let n = at_list f.before in
+    let n = c.before.before.before.before.before.before.before.before.before in
     let l = at_form n in
-    let w = at_work l in
-    let s = start w in
-    let b = s.args.bytes.now in
-    let v = both_fit b (length s.args.out.now) (length s.args.list.now) (omega (arith, long l, n.before.before.if1.left)) (omega (arith, listed n, f.before.before.before.if2.false)) in
-    let k = written_room _ b s.args.out.now s.args.list.now _ _ _ _ v (long l) (listed n) (form_told b _ f.write-mended.ensures) (list_told b _ t.write-list.ensures) in
-    (k.0, (w.work-out.ensures.1.1, k.1))
+    let b = c.args.bytes.now in
+    let v = both_fit b (length c.args.out.now) (length c.args.list.now) (omega (arith, long l, c.if-out-length.false)) (omega (arith, listed n, c.if-list-listed.false)) in
+    let k = written_room _ b c.args.out.now c.args.list.now _ _ _ _ v (long l) (listed n) (form_told b _ c.write_mended.ensures) (list_told b _ c.write_list.ensures) in
+    (k.0, (c.work_out-c.ensures.1.1, k.1))
 
 pub write_both_spec : {M : Type 1} → statement M
 write_both_spec =

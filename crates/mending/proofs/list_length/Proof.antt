@@ -8,9 +8,9 @@ use Rattle.mending.proofs.list_length.Tie as tie
 
 returns : tie.Need-returns
 returns c =
-    let one = c.before.corners-length.ensures in
-    let two = c.lost-length.ensures in
-    (omega (arith, one.0, two.0, changes_long (parts_of c.before.before.before.before.args.bytes.now)), omega (arith, one.1, two.1))
+    let one = c.corners_length.ensures in
+    let two = c.lost_length.ensures in
+    (omega (arith, one.0, two.0, changes_long (parts_of c.args.bytes.now)), omega (arith, one.1, two.1))
 
 pub list_length_spec : {M : Type 1} → statement M
 list_length_spec = tie.close (tie.spec (λ c κs. search rules) (λ c κs. search rules) (search rules) returns)

@@ -16,13 +16,13 @@ use Rattle.mending.proofs.Tables.{adjacency_long, adjacency_more}
 use Rattle.mending.proofs.put_adjacency.Statement.{statement}
 use Rattle.mending.proofs.put_adjacency.Tie as tie
 
-abbrev invariant_loop : tie.invariant_loop
+abbrev invariant_loop : tie.invariant-loop-h
 invariant_loop bytes work e out₀ at n h₀ out h = (out ≡ put out₀ at (bytes_of (take h (adjacency_of (recornered (parts_of bytes)))))) × (h ≤ n)
 
-abbrev decreases_loop : tie.decreases_loop
+abbrev decreases_loop : tie.decreases-loop-h
 decreases_loop bytes work e out₀ at n h₀ out h = n - h
 
-abbrev start : tie.At-loop invariant_loop decreases_loop → tie.Start invariant_loop decreases_loop
+abbrev start : tie.At-loop-h invariant_loop decreases_loop → tie.Start invariant_loop decreases_loop
 start l = l.before.before.before.before.before
 
 -- the floor with the changed corners
@@ -30,41 +30,41 @@ abbrev changed : tie.Start invariant_loop decreases_loop → Parts
 changed s = recornered (parts_of s.args.bytes.now)
 
 -- how many entries there are, and how much room
-record Known (l : tie.At-loop invariant_loop decreases_loop) : Type 0 where
-  count : l.before.halves_of.result ≡ halves (parts_of (start l).args.bytes.now)
-  few : l.before.halves_of.result ≤ 12288
-  same : halves (changed (start l)) ≡ l.before.halves_of.result
-  long : length l.loop.out ≡ length (start l).args.out.now
-  all : length (adjacency_of (changed (start l))) ≡ l.before.halves_of.result
+record Known (l : tie.At-loop-h invariant_loop decreases_loop) : Type 0 where
+  count : l.halves_of-n.result ≡ halves (parts_of (start l).args.bytes.now)
+  few : l.halves_of-n.result ≤ 12288
+  same : halves (changed (start l)) ≡ l.halves_of-n.result
+  long : length l.loop-h.out ≡ length (start l).args.out.now
+  all : length (adjacency_of (changed (start l))) ≡ l.halves_of-n.result
 
-known : (l : tie.At-loop invariant_loop decreases_loop) → Known l
+known : (l : tie.At-loop-h invariant_loop decreases_loop) → Known l
 known l =
-    let e = l.before.halves_of.ensures in
+    let e = l.halves_of-n.ensures in
     let n = as_many (parts_of (start l).args.bytes.now) in
-    record { count = e.0; few = e.1; same = omega (arith, e.0, n); long = put_long _ _ _ l.loop.invariant.0; all = omega (arith, e.0, n, adjacency_long (changed (start l))) }
+    record { count = e.0; few = e.1; same = omega (arith, e.0, n); long = put_long _ _ _ l.loop-h.invariant.0; all = omega (arith, e.0, n, adjacency_long (changed (start l))) }
 
-loop_holds : tie.Need-loop-init invariant_loop decreases_loop
+loop_holds : tie.Need-loop-h-init invariant_loop decreases_loop
 loop_holds c = (none_put _ (adjacency_of (changed c.before.before.before.before)) _, omega arith)
 
-pairing_of_requires : tie.Need-pairing-of-requires invariant_loop decreases_loop
+pairing_of_requires : tie.Need-pairing_of-requires invariant_loop decreases_loop
 pairing_of_requires c κs =
     let l = c.before.before in
     let k = (start l).requires.0 in
     ((k.right, k.long, omega (arith, (known l).count)), k.noted)
 
-put_u32_requires : tie.Need-put-u32-requires invariant_loop decreases_loop
+put_u32_requires : tie.Need-put_u32-requires invariant_loop decreases_loop
 put_u32_requires c κs = let l = c.before.before.before in omega (arith, (known l).long, (known l).all, (start l).requires.2)
 
-loop_again : tie.Need-loop-preserved invariant_loop decreases_loop
+loop_again : tie.Need-loop-h-preserved invariant_loop decreases_loop
 loop_again c =
     let put = c.before.before in
     let l = put.before.before.before.before in
-    (adjacency_more (changed (start l)) _ _ l.loop.h _ (omega (arith, (known l).same)) put.before.pairing-of.ensures l.loop.invariant.0 put.put-u32.ensures, omega arith)
+    (adjacency_more (changed (start l)) _ _ l.loop-h.h _ (omega (arith, (known l).same)) put.pairing_of.ensures l.loop-h.invariant.0 put.put_u32.ensures, omega arith)
 
 returns : tie.Need-returns invariant_loop decreases_loop
 returns c =
     let l = c.before in
-    (omega (arith, (known l).all), all_put _ (adjacency_of (changed (start l))) _ l.loop.h (omega (arith, (known l).all)) l.loop.invariant.0)
+    (omega (arith, (known l).all), all_put _ (adjacency_of (changed (start l))) _ l.loop-h.h (omega (arith, (known l).all)) l.loop-h.invariant.0)
 
 pub put_adjacency_spec : {M : Type 1} → statement M
 put_adjacency_spec =

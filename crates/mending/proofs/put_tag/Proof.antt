@@ -7,13 +7,13 @@ use Rattle.mending.proofs.Records.{tag_put}
 use Rattle.mending.proofs.put_tag.Statement.{statement}
 use Rattle.mending.proofs.put_tag.Tie as tie
 
-put_u16_requires : tie.Need-put-u16-requires
+put_u16_requires : tie.Need-put_u16-requires
 put_u16_requires c κs = simp length-set (omega arith)
 
 returns : tie.Need-returns
-returns c = tag_put _ _ _ _ c.before.before.put-u16.ensures
+returns c = tag_put _ _ _ _ c.put_u16.ensures
 
-same_length : tie.Need-same-length
+same_length : tie.Need-shape_of-list
 same_length c = put_long _ _ _ (returns c)
 
 pub put_tag_spec : {M : Type 1} → statement M
