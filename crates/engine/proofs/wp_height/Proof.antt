@@ -9,7 +9,7 @@ use Rattle.engine.proofs.wp_height.Tie as tie
 returns : tie.Need-returns
 returns c =
     let a = c.before.before.before.before.before.before in
-    (handed_both (height_answer a.args.bytes.now (length a.args.work.now)) a.args.x a.args.y a.ranges.x a.ranges.y c.before.before.height-at.ensures.0, c.before.before.height-at.ensures.1)
+    (handed_both (height_answer a.args.bytes.now (length a.args.work.now)) a.args.x a.args.y a.ranges.x a.ranges.y c.height_at.ensures.0, c.height_at.ensures.1)
 
 pub wp_height_spec : {M : Type 1} → statement M
 wp_height_spec = tie.close (tie.spec (search rules) (search rules) returns)

@@ -9,7 +9,7 @@ use Rattle.engine.proofs.wp_query.Tie as tie
 returns : tie.Need-returns
 returns c =
     let a = c.before.before.before.before.before.before in
-    (handed_both (point_answer a.args.bytes.now (length a.args.work.now)) a.args.x a.args.y a.ranges.x a.ranges.y c.before.before.query.ensures.0, c.before.before.query.ensures.1)
+    (handed_both (point_answer a.args.bytes.now (length a.args.work.now)) a.args.x a.args.y a.ranges.x a.ranges.y c.query.ensures.0, c.query.ensures.1)
 
 pub wp_query_spec : {M : Type 1} → statement M
 wp_query_spec = tie.close (tie.spec (search rules) (search rules) returns)

@@ -4,7 +4,7 @@ use Rattle.engine.proofs.wp_tree.Statement.{statement}
 use Rattle.engine.proofs.wp_tree.Tie as tie
 
 returns : tie.Need-returns
-returns c = c.before.before.before.before.plant.ensures
+returns c = c.plant.ensures
 
 pub wp_tree_spec : {M : Type 1} → statement M
 wp_tree_spec = tie.close (tie.spec (search rules) (search rules) (search rules) returns)

@@ -4,7 +4,7 @@ use Rattle.engine.proofs.wp_undo.Statement.{statement}
 use Rattle.engine.proofs.wp_undo.Tie as tie
 
 returns : tie.Need-returns
-returns c = c.before.before.before.before.undo.ensures
+returns c = c.undo.ensures
 
 pub wp_undo_spec : {M : Type 1} → statement M
 wp_undo_spec = tie.close (tie.spec (search rules) (search rules) (search rules) returns)
