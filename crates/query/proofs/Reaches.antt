@@ -64,9 +64,19 @@ module _ (p : Parts) (v e w : ℕ) (r : Scaled64) (q : w ≡ vertex_word p v e) 
   coordinate_small = read_within (v_small w r s) tt
 
 -- that of a corner's vertex is the corner's
-pub corner_is : (p : Parts) (f c e v : ℕ) {z : ℤ} → v ≡ corner p f c → z ≡ scaled (vertex_float p v e) → Within 65536 z → read z ≡ corner_at p f c e
+pub corner_read : (p : Parts) (f c e v : ℕ) {z : ℤ} → v ≡ corner p f c → z ≡ scaled (vertex_float p v e) → Within 65536 z → read z ≡ corner_at p f c e
 unfolding corner_at
-corner_is p f c e v a q small = read_is small tt ∙ q ∙ ap (λ (u : ℕ). scaled (vertex_float p u e)) a
+corner_read p f c e v a q small = read_is small tt ∙ q ∙ ap (λ (u : ℕ). scaled (vertex_float p u e)) a
+
+-- ---- a corner in sixty-fourths, as a local holds it
+
+module _ (p : Parts) (f c e v w : ℕ) (r : Scaled64) (a : v ≡ corner p f c) (q : w ≡ vertex_word p v e) (s : r ≡ scaled_at w) where
+  pub corner_is : on_grid (vertex_float p (corner p f c) e) ≡ true → read r.v ≡ corner_at p f c e
+  unfolding corner_at
+  corner_is on = read_is (v_small w r s) tt ∙ (v_is w r s (rw (q, a) on) ∙ rw (q, a))
+
+pub corner_small : (w : ℕ) (r : Scaled64) → r ≡ scaled_at w → Within 65536 (read r.v)
+corner_small w r s = read_within (v_small w r s) tt
 
 -- the triangle of a face, number by number
 pub triangle : (p : Parts) (x y : ℤ) (f : ℕ) {a b c d e g h i : ℤ}

@@ -24,6 +24,10 @@ fits_at w (negsuc n) h = record { sfits = pred_lt n (2 ^ hbits w) h }
     pred_lt : (n m : ℕ) → suc n < m → n < m
     pred_lt n m h = omega arith
 
+-- z fits where its size is below 2 ^ 63
+pub fits_of : (z : ℤ) → nat_abs z < 2 ^ 63 → SFits w64 z
+fits_of z h = fits_at w64 z h
+
 -- what fits in 32 bits fits in 64
 pub wider : (z : ℤ) → SFits w32 z → SFits w64 z
 wider z h = record { sfits = lt_trans h.sfits (lit< tt) }

@@ -3,7 +3,7 @@ use Prim.Native.Nat.{◌<◌}
 use native.Mathlib.Omega.{arith}
 use Rattle.wire.proofs.Signed.{read_within}
 use Rattle.tables.specs.Parts.{parts_of, corner}
-use Rattle.query.proofs.Reaches.{corner_is}
+use Rattle.query.proofs.Reaches.{corner_read}
 use Rattle.query.proofs.flat_corner.Statement.{statement}
 use Rattle.query.proofs.flat_corner.Tie as tie
 
@@ -25,7 +25,7 @@ returns c =
     let v = c.corner_of-v.ensures.0 in
     let x = c.coordinate-x.ensures in
     let y = c.coordinate-y.ensures in
-    ((corner_is _ _ _ 0 _ v x.0 x.1, corner_is _ _ _ 1 _ v y.0 y.1), (read_within x.1 tt, read_within y.1 tt))
+    ((corner_read _ _ _ 0 _ v x.0 x.1, corner_read _ _ _ 1 _ v y.0 y.1), (read_within x.1 tt, read_within y.1 tt))
 
 pub flat_corner_spec : {M : Type 1} → statement M
 flat_corner_spec = tie.close (tie.spec corner_of_requires coordinate_requires coordinate_requires_2 returns)
