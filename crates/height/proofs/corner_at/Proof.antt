@@ -3,7 +3,7 @@ use Prim.Native.Nat.{◌<◌}
 use native.Mathlib.Omega.{arith}
 use Rattle.wire.proofs.Signed.{read_within}
 use Rattle.tables.specs.Parts.{parts_of}
-use Rattle.query.proofs.Reaches.{corner_is}
+use Rattle.query.proofs.Reaches.{corner_read}
 use Rattle.height.proofs.Answers.{corner_made}
 use Rattle.height.proofs.corner_at.Statement.{statement}
 use Rattle.height.proofs.corner_at.Tie as tie
@@ -30,7 +30,7 @@ returns c =
     let x = c.coordinate-x.ensures in
     let y = c.coordinate-y.ensures in
     let z = c.coordinate-z.ensures in (
-      corner_made _ _ _ (corner_is _ _ _ 0 _ v x.0 x.1) (corner_is _ _ _ 1 _ v y.0 y.1) (corner_is _ _ _ 2 _ v z.0 z.1),
+      corner_made _ _ _ (corner_read _ _ _ 0 _ v x.0 x.1) (corner_read _ _ _ 1 _ v y.0 y.1) (corner_read _ _ _ 2 _ v z.0 z.1),
       record { x = read_within x.1 tt; y = read_within y.1 tt; z = read_within z.1 tt },
     )
 
