@@ -10,11 +10,6 @@ use Rattle.plant.proofs.Answers.{little_memory, rule_refuses, room_decides}
 use Rattle.plant.proofs.plant.Statement.{statement}
 use Rattle.plant.proofs.plant.Tie as tie
 
-returns : tie.Need-returns-then-work-lt-WORK_SIZE
-returns c =
-    let s = c.before.before.before.before.before in
-    little_memory s.args.bytes.now s.args.work.now s.args.out.now (omega arith) _ c.refused_form.ensures
-
 -- the places that are gone back to: the memory cleared, the rules asked, and the start
 abbrev at_clear : tie.After-struct_known-1 → tie.After-clear_to
 at_clear c = c.before.before.before
@@ -25,8 +20,8 @@ at_rules c = c.before.before.before.before
 abbrev start : tie.After-bare_verdict-so → tie.Start
 start c = c.before.before.before.before.before.before
 
-returns_2 : tie.Need-returns-then-so-ne0
-returns_2 c =
+returns : tie.Need-returns-then-so-ne0
+returns c =
     let other = c.before in
     let clear = at_clear other.before in
     let rules = at_rules clear in
@@ -38,8 +33,8 @@ returns_2 c =
 right : (c : tie.Else-so-ne0) → let b = (start (at_rules (at_clear c.before))).args.bytes.now in RightHeader b × Meshed (parts_of b)
 right c = bare_right _ (zero _ _ (at_rules (at_clear c.before)).bare_verdict-so.ensures.0 c.if-so-ne0.false)
 
-returns_3 : tie.Need-returns
-returns_3 c =
+returns_2 : tie.Need-returns
+returns_2 c =
     let w = c.before.before in
     let other = w.before.before in
     let clear = at_clear other.before in
@@ -50,4 +45,16 @@ returns_3 c =
 
 pub plant_spec : {M : Type 1} → statement M
 plant_spec =
-    tie.close (tie.spec (λ c κs. search rules) returns (λ c κs. search rules) (λ c κs. search rules) (λ c κs. search rules) (search rules) returns_2 (λ c κs. right c.before) (search rules) (search rules) returns_3)
+    tie.close
+    (tie.spec
+    (λ c κs. search rules)
+    (λ c. little_memory c.args.bytes.now c.args.work.now c.args.out.now (omega arith) _ c.refused_form.ensures)
+    (λ c κs. search rules)
+    (λ c κs. search rules)
+    (λ c κs. search rules)
+    (search rules)
+    returns
+    (λ c κs. right c.before)
+    (search rules)
+    (search rules)
+    returns_2)
