@@ -108,7 +108,8 @@ def main(argv):
     for p in antt() + sorted(glob.glob("crates/*/src/**/*.rt", recursive=True)):
         text = read(p)
         seen = collections.defaultdict(set)
-        files[p] = turned(text, new, from_library(text, crates), seen)
+        # a function of src/ keeps its name, whatever a law of that name is called now
+        files[p] = turned(text, new, from_library(text, crates) | (set(LAWS) if p.endswith(".rt") else set()), seen)
         clashes += [f"{p}: {' and '.join(sorted(of))} -> {to}" for to, of in seen.items() if len(of) > 1 and not (to in of and to in source and len(of) == 2) and to not in ALIKE]
     for p in sorted(glob.glob("crates/*/must-fail/*.edit")):
         files[p] = turned(read(p), new, set(), collections.defaultdict(set))
