@@ -2,8 +2,8 @@
 #![tactic(auto)]
 
 ghost use Rattle.std.specs.Prelude.{◌≡◌, ◌<◌, ◌≤◌, length};
-ghost use Rattle.verdict.specs.Lowest.{lowest};
-ghost use Rattle.verdict.specs.Verdict.{◌then◌};
+ghost use Rattle.verdict.specs.Lowest.{lowest, any_under, first};
+ghost use Rattle.verdict.specs.Refusals.{verdict_of};
 ghost use Rattle.verdict.specs.Memory.{work_size, cleared_to, SamePast};
 ghost use Rattle.tables.specs.Header.{RightHeader};
 ghost use Rattle.tables.specs.Parts.{parts_of, edge_of, transition, loop_end};
@@ -11,9 +11,10 @@ ghost use Rattle.pairs.specs.Halves.{halves, rules15to16, RightPairs};
 ghost use Rattle.border.specs.Loops.{wrong_edge, rule17, wrong_transition, loop_start, after, open_at, open_run, wrong_loop, rule19, rules17to19, EdgesIn};
 ghost use Rattle.border.specs.Memory.{marks_of, wrong_by, unmarked};
 
-use verdict::Answer;
+use verdict::{Refusal, Verdict, refuse_at, refuse_if};
 
 // The number of edge entries.
+#[tactic(auto, using(crate::proofs::Loops::few_edges))]
 pub fn edges_of(bytes: &[u8]) -> usize
     requires { RightHeader bytes.now }
     ensures { (result ≡ (parts_of bytes.now).edges) × (result ≤ 12288) }
@@ -22,6 +23,7 @@ pub fn edges_of(bytes: &[u8]) -> usize
 }
 
 // The number of perimeter entries.
+#[tactic(auto, using(crate::proofs::Loops::few_loops))]
 fn loops_of(bytes: &[u8]) -> usize
     requires { RightHeader bytes.now }
     ensures { (result ≡ (parts_of bytes.now).perimeters) × (result ≤ 12288) }
@@ -54,6 +56,7 @@ fn loop_end(bytes: &[u8], j: usize) -> usize
 }
 
 // The start of loop j: the end before it.
+#[tactic(auto, using(crate::proofs::Loops::start_first, crate::proofs::Loops::start_later))]
 fn loop_start(bytes: &[u8], j: usize) -> usize
     requires { RightHeader bytes.now × (j ≤ (parts_of bytes.now).perimeters) }
     ensures { result ≡ loop_start (parts_of bytes.now) j }
@@ -65,6 +68,7 @@ fn loop_start(bytes: &[u8], j: usize) -> usize
 }
 
 // Whether edge entry i is no border, or is marked already.
+#[tactic(auto, using(pairs::proofs::Halves::few_walkable, pairs::proofs::Halves::border_in), unfolding(verdict::specs::Memory::is_marked, crate::specs::Memory::wrong_by))]
 fn wrong_by(bytes: &[u8], work: &[u8], i: usize) -> bool
     requires right_header { RightHeader bytes.now × RightPairs (parts_of bytes.now) }
     requires marks { (work_size ≤ length work.now) × (i < (parts_of bytes.now).edges) }
@@ -78,27 +82,24 @@ fn wrong_by(bytes: &[u8], work: &[u8], i: usize) -> bool
 }
 
 // Marks the borders of the edge entries in memory made clear for them, up to the first wrong one.
-fn mark_edges(bytes: &[u8], work: &mut [u8]) -> usize
+fn mark_edges(bytes: &[u8], work: &mut [u8]) -> Option<usize>
     requires right_header { RightHeader bytes.now × RightPairs (parts_of bytes.now) }
     requires memory { work_size ≤ length work.old }
-    ensures answer { result ≡ lowest (parts_of bytes.now).edges (wrong_edge (parts_of bytes.now)) }
-    ensures marks { work.new ≡ marks_of (parts_of bytes.now) result (cleared_to (halves (parts_of bytes.now)) work.old) }
+    ensures answer { result ≡ first (parts_of bytes.now).edges (wrong_edge (parts_of bytes.now)) }
+    ensures marks { work.new ≡ marks_of (parts_of bytes.now) (lowest (parts_of bytes.now).edges (wrong_edge (parts_of bytes.now))) (cleared_to (halves (parts_of bytes.now)) work.old) }
 {
-    let count = edges_of(bytes);
     verdict::clear_to(work, pairs::halves_of(bytes));
-    let mut i = 0;
-    while i < count {
+    for i in 0..edges_of(bytes) {
         if wrong_by(bytes, work, i) {
-            return i;
+            return Some(i);
         }
-        let h = edge_of(bytes, i);
-        work[h] = 1;
-        i += 1;
+        work[edge_of(bytes, i)] = 1;
     }
-    count
+    None
 }
 
 // Whether half-edge h is a border without a mark.
+#[tactic(auto, using(verdict::proofs::Bools::not_not, pairs::proofs::Halves::few_walkable), unfolding(verdict::specs::Memory::is_marked, crate::specs::Memory::unmarked))]
 fn is_unmarked(bytes: &[u8], work: &[u8], h: usize) -> bool
     requires right_header { RightHeader bytes.now × RightPairs (parts_of bytes.now) }
     requires marks { (work_size ≤ length work.now) × (h < halves (parts_of bytes.now)) }
@@ -110,38 +111,30 @@ fn is_unmarked(bytes: &[u8], work: &[u8], h: usize) -> bool
     false
 }
 
-fn first_unmarked(bytes: &[u8], work: &[u8]) -> usize
+// Whether some border has no mark.
+fn has_unmarked(bytes: &[u8], work: &[u8]) -> bool
     requires right_header { RightHeader bytes.now × RightPairs (parts_of bytes.now) }
     requires marks { work_size ≤ length work.now }
-    ensures { result ≡ lowest (halves (parts_of bytes.now)) (unmarked (parts_of bytes.now) work.now) }
+    ensures { result ≡ any_under (halves (parts_of bytes.now)) (unmarked (parts_of bytes.now) work.now) }
 {
-    let n = pairs::halves_of(bytes);
-    let mut h = 0;
-    while h < n {
-        if is_unmarked(bytes, work, h) {
-            return h;
-        }
-        h += 1;
-    }
-    n
+    (0..pairs::halves_of(bytes)).any(|h| is_unmarked(bytes, work, h))
 }
 
 // 17
-fn edges_verdict(bytes: &[u8], work: &mut [u8]) -> Answer
+#[tactic(auto, using(verdict::proofs::Results::here, verdict::proofs::Results::each_by_first), unfolding(crate::specs::Loops::rule17))]
+fn edges_verdict(bytes: &[u8], work: &mut [u8]) -> Verdict
     requires right_header { RightHeader bytes.now × RightPairs (parts_of bytes.now) }
     requires memory { work_size ≤ length work.old }
-    ensures answer { result ≡ rule17 (parts_of bytes.now) }
+    ensures answer { verdict_of result ≡ rule17 (parts_of bytes.now) }
     ensures memory { SamePast work.new work.old }
 {
-    let n = pairs::halves_of(bytes);
-    let count = edges_of(bytes);
-    let wrong = mark_edges(bytes, work);
-    let gap = first_unmarked(bytes, work);
-    let a = verdict::first_rule(17, wrong < count, wrong as u32);
-    verdict::then_rule(a, 17, gap < n, count as u32)
+    refuse_at(mark_edges(bytes, work), Refusal::EdgeEntry)?;
+    let missing = has_unmarked(bytes, work);
+    refuse_if(missing, Refusal::EdgeEntry, edges_of(bytes) as u32)
 }
 
 // Whether the transition of edge entry i is not -1 to 63.
+#[tactic(auto, using(crate::proofs::Loops::transition_room, crate::proofs::Loops::transition_past))]
 pub fn wrong_transition(bytes: &[u8], i: usize) -> bool
     requires { RightHeader bytes.now × (i < (parts_of bytes.now).edges) }
     ensures { result ≡ wrong_transition (parts_of bytes.now) i }
@@ -153,22 +146,15 @@ pub fn wrong_transition(bytes: &[u8], i: usize) -> bool
     t != wire::NONE
 }
 
-fn first_wrong_transition(bytes: &[u8]) -> usize
+fn first_wrong_transition(bytes: &[u8]) -> Option<usize>
     requires { RightHeader bytes.now }
-    ensures { result ≡ lowest (parts_of bytes.now).edges (wrong_transition (parts_of bytes.now)) }
+    ensures { result ≡ first (parts_of bytes.now).edges (wrong_transition (parts_of bytes.now)) }
 {
-    let count = edges_of(bytes);
-    let mut i = 0;
-    while i < count {
-        if wrong_transition(bytes, i) {
-            return i;
-        }
-        i += 1;
-    }
-    count
+    (0..edges_of(bytes)).find(|i| wrong_transition(bytes, *i))
 }
 
 // The next after edge i in the run from s up to t.
+#[tactic(auto, using(crate::proofs::Loops::after_last, crate::proofs::Loops::after_step))]
 fn after_of(s: usize, t: usize, i: usize) -> usize
     requires { (s < t) × (i < t) }
     ensures { (result ≡ after s t i) × (result < t) }
@@ -180,6 +166,7 @@ fn after_of(s: usize, t: usize, i: usize) -> usize
 }
 
 // Whether edge i does not end where the next starts.
+#[tactic(auto, unfolding(crate::specs::Loops::open_at))]
 fn open_at(bytes: &[u8], s: usize, t: usize, i: usize) -> bool
     requires right_header { RightHeader bytes.now × EdgesIn (parts_of bytes.now) }
     requires run { (s < t) × (i < t) × (t ≤ (parts_of bytes.now).edges) }
@@ -199,18 +186,11 @@ fn open_run(bytes: &[u8], s: usize, t: usize) -> bool
     requires run { (s < t) × (t ≤ (parts_of bytes.now).edges) }
     ensures { result ≡ open_run (parts_of bytes.now) s t }
 {
-    let n = t - s;
-    let mut k = 0;
-    while k < n {
-        if open_at(bytes, s, t, s + k) {
-            return true;
-        }
-        k += 1;
-    }
-    false
+    (0..t - s).any(|k| open_at(bytes, s, t, s + k))
 }
 
 // Whether perimeter entry j is wrong.
+#[tactic(auto, using(crate::proofs::Loops::loop_falls, crate::proofs::Loops::loop_past, crate::proofs::Loops::loop_run))]
 fn wrong_loop(bytes: &[u8], j: usize) -> bool
     requires right_header { RightHeader bytes.now × EdgesIn (parts_of bytes.now) }
     requires entry { j < (parts_of bytes.now).perimeters }
@@ -228,47 +208,34 @@ fn wrong_loop(bytes: &[u8], j: usize) -> bool
     open_run(bytes, s, t)
 }
 
-fn first_wrong_loop(bytes: &[u8]) -> usize
+fn first_wrong_loop(bytes: &[u8]) -> Option<usize>
     requires { RightHeader bytes.now × EdgesIn (parts_of bytes.now) }
-    ensures { result ≡ lowest (parts_of bytes.now).perimeters (wrong_loop (parts_of bytes.now)) }
+    ensures { result ≡ first (parts_of bytes.now).perimeters (wrong_loop (parts_of bytes.now)) }
 {
-    let loops = loops_of(bytes);
-    let mut j = 0;
-    while j < loops {
-        if wrong_loop(bytes, j) {
-            return j;
-        }
-        j += 1;
-    }
-    loops
+    (0..loops_of(bytes)).find(|j| wrong_loop(bytes, *j))
 }
 
 // 19
-fn then_loops(so: Answer, bytes: &[u8]) -> Answer
+#[tactic(auto, using(verdict::proofs::Results::here, verdict::proofs::Results::past, verdict::proofs::Results::each_by_first), unfolding(crate::specs::Loops::rule19))]
+fn perimeters_verdict(bytes: &[u8]) -> Verdict
     requires { RightHeader bytes.now × EdgesIn (parts_of bytes.now) }
-    ensures { result ≡ (so then rule19 (parts_of bytes.now)) }
+    ensures { verdict_of result ≡ rule19 (parts_of bytes.now) }
 {
-    let count = edges_of(bytes);
+    refuse_at(first_wrong_loop(bytes), Refusal::Perimeter)?;
     let loops = loops_of(bytes);
-    let wrong = first_wrong_loop(bytes);
     let last = loop_start(bytes, loops);
-    let a = verdict::then_rule(so, 19, wrong < loops, wrong as u32);
-    verdict::then_rule(a, 19, last != count, loops as u32)
+    refuse_if(last != edges_of(bytes), Refusal::Perimeter, loops as u32)
 }
 
 // Rules 17 to 19, where 15 and 16 are unbroken.
-pub fn loops_verdict(bytes: &[u8], work: &mut [u8]) -> Answer
+#[tactic(auto, using(verdict::proofs::Results::here, verdict::proofs::Results::past, verdict::proofs::Results::each_by_first), unfolding(crate::specs::Loops::rules17to19, crate::specs::Loops::rule18))]
+pub fn loops_verdict(bytes: &[u8], work: &mut [u8]) -> Verdict
     requires right_header { RightHeader bytes.now × (work_size ≤ length work.old) }
     requires pairs { (rules15to16 (parts_of bytes.now)).number ≡ 0 }
-    ensures answer { result ≡ rules17to19 (parts_of bytes.now) }
+    ensures answer { verdict_of result ≡ rules17to19 (parts_of bytes.now) }
     ensures memory { SamePast work.new work.old }
 {
-    let count = edges_of(bytes);
-    let a = edges_verdict(bytes, work);
-    if a.number != 0 {
-        return a;
-    }
-    let wrong = first_wrong_transition(bytes);
-    let b = verdict::then_rule(a, 18, wrong < count, wrong as u32);
-    then_loops(b, bytes)
+    edges_verdict(bytes, work)?;
+    refuse_at(first_wrong_transition(bytes), Refusal::Transition)?;
+    perimeters_verdict(bytes)
 }

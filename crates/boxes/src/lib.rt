@@ -18,6 +18,7 @@ pub struct Box {
 }
 
 // Whether x lies between two ends, ends included.
+#[tactic(auto, unfolding(crate::specs::Box::between))]
 fn is_between(lo: f32, x: f32, hi: f32) -> bool
     ensures { result ≡ between lo x hi }
 {
@@ -25,6 +26,7 @@ fn is_between(lo: f32, x: f32, hi: f32) -> bool
 }
 
 // Whether a box holds a corner.
+#[tactic(auto, using(crate::proofs::Boxes::no_x, crate::proofs::Boxes::no_y, crate::proofs::Boxes::by_z))]
 pub fn holds_point(b: Box, x: f32, y: f32, z: f32) -> bool
     ensures { result ≡ holds_point b x y z }
 {
@@ -38,6 +40,7 @@ pub fn holds_point(b: Box, x: f32, y: f32, z: f32) -> bool
 }
 
 // Whether no coordinate of (a, b, c) is over that of (d, e, f).
+#[tactic(auto, unfolding(crate::specs::Box::none_over))]
 fn none_over(a: f32, b: f32, c: f32, d: f32, e: f32, f: f32) -> bool
     ensures { result ≡ none_over a b c d e f }
 {
@@ -45,6 +48,7 @@ fn none_over(a: f32, b: f32, c: f32, d: f32, e: f32, f: f32) -> bool
 }
 
 // Whether a box holds another, the child's.
+#[tactic(auto, using(crate::proofs::Boxes::no_least, crate::proofs::Boxes::by_greatest))]
 pub fn holds_box(b: Box, c: Box) -> bool
     ensures { result ≡ holds_box b c }
 {
@@ -64,6 +68,7 @@ pub fn holds_box(b: Box, c: Box) -> bool
 }
 
 // Whether a box holds a point seen from above.
+#[tactic(auto, using(crate::proofs::Boxes::off_x, crate::proofs::Boxes::by_y))]
 pub fn holds_xy(b: Box, x: f32, y: f32) -> bool
     ensures { result ≡ holds_xy b x y }
 {
@@ -74,6 +79,7 @@ pub fn holds_xy(b: Box, x: f32, y: f32) -> bool
 }
 
 // The box of six floats by their bits.
+#[tactic(auto, unfolding(crate::specs::Box::box_of_bits))]
 pub fn box_of_bits(a: u32, b: u32, c: u32, d: u32, e: u32, f: u32) -> Box
     requires { FiniteBits a b c d e f }
     ensures { result ≡ box_of_bits a b c d e f }

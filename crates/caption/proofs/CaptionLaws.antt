@@ -8,16 +8,15 @@ use lib.ListN.{length, get_or}
 use borrow.Author.Tests.{lt-ltb, le-ltb}
 use Rattle.text.specs.Scan.{words, line_at}
 use Rattle.text.specs.Reading.{nth}
-use Rattle.layout.specs.declared.Layout.{Layout}
 use Rattle.rooms.specs.Rooms.{room_names}
-use Rattle.layout.specs.Starts.{kept_name, layout_read}
+use Rattle.layout.specs.Starts.{kept_name, Told, layout_read}
 use Rattle.layout.proofs.HeldLaws.{room_name_lem}
 use Rattle.rooms.proofs.RoomLaws.{rooms_are, names_are, rooms_kept}
 use Rattle.caption.specs.Caption.{has_room, room_name, caption_of, caption_number}
 
 -- ---- the rooms of a layout, by what the reader answered
 
-module _ (s : List ℕ) (r : Layout) (a : r ≡ layout_read s) where
+module _ (s : List ℕ) (r : Told) (a : r ≡ layout_read s) where
   pub has_it : (i : ℕ) → i < r.rooms → has_room s i ≡ true
   unfolding has_room
   has_it i h = lt-ltb i (length (room_names s)) (omega (arith, rooms_are s r a))

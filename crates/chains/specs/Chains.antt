@@ -1,7 +1,20 @@
 -- The numbers 0, 1, 2 .. in chains by a key, which stand in lent memory: what a search for the numbers of one key goes by, and so does not
 -- look at all numbers. No rule speaks of chains. Definitions only.
-use Rattle.std.specs.Prelude.{ℕ, zero, suc, ◌+◌, ◌-◌, ◌*◌, ◌<◌, ◌≤◌, ◌≡◌, Bool, true, false, cond, List, eqb}
+use Rattle.std.specs.Prelude.{ℕ, zero, suc, ◌+◌, ◌-◌, ◌*◌, ◌%◌, ◌<◌, ◌≤◌, ◌≡◌, Bool, true, false, cond, List, eqb, Option, Some, None}
 use Rattle.wire.specs.Bytes.{u16_at, put_u16}
+
+-- how the memory has a number, or none: as one more than itself, or 0
+abbrev pub one_more : Option ℕ → ℕ
+one_more None = 0
+one_more (Some k) = k + 1
+
+-- by how many chains the second part of a key moves it on; any number is right, this one keeps the chains short
+abbrev pub stride : ℕ
+stride = 517
+
+-- the chain, of n, of a key of two parts; both count, so that keys with one part in common stand in many chains
+unfoldable pub mixed : ℕ → ℕ → ℕ → ℕ
+mixed n a b = (a + stride * b) % n
 
 -- the last number under s of chain v, as one more than itself, or 0 where there is none
 unfoldable pub last_under : (ℕ → ℕ) → ℕ → ℕ → ℕ

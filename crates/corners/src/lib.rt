@@ -27,6 +27,7 @@ pub fn lowest_of(bytes: &[u8], work: &[u8], v: usize) -> usize
 }
 
 // The vertex where half-edge h starts.
+#[tactic(auto, using(tables::proofs::Reading::sized_of, crate::proofs::Corners::mended_from, crate::proofs::Corners::from_vertex))]
 pub fn from_of(bytes: &[u8], work: &[u8], h: usize) -> usize
     requires right_header { RightHeader bytes.now × Cornered (parts_of bytes.now) × (h < halves (parts_of bytes.now)) }
     requires mapped { (work_size ≤ length work.now) × Mapped (parts_of bytes.now) (top work.now) }
@@ -37,6 +38,7 @@ pub fn from_of(bytes: &[u8], work: &[u8], h: usize) -> usize
 }
 
 // The vertex where half-edge h ends.
+#[tactic(auto, using(tables::proofs::Reading::sized_of, crate::proofs::Corners::mended_to, crate::proofs::Corners::to_vertex))]
 pub fn to_of(bytes: &[u8], work: &[u8], h: usize) -> usize
     requires right_header { RightHeader bytes.now × Cornered (parts_of bytes.now) × (h < halves (parts_of bytes.now)) }
     requires mapped { (work_size ≤ length work.now) × Mapped (parts_of bytes.now) (top work.now) }

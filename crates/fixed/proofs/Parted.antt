@@ -5,8 +5,10 @@ use Prim.Native.Nat.{ℕ, zero, suc, ◌+◌, ◌*◌, ◌-◌, ◌≤◌, ◌<�
 use native.Mathlib.Numerals.{add-one}
 use native.Mathlib.Omega.{arith}
 use native.Mathlib.Decide.{ℕ_discrete}
-use lib.ListN.{length, get_or, set, take, drop, length-append, length-drop, take-append-drop}
-use lib.Seq.{take-suc, take_all, take-add, ext_get_or, get_or-take, get_or-drop, length-take-le, drop-drop}
+use lib.ListN.{length, take, drop, length-append, length-drop, take-append-drop}
+use lib.Seq.{take-suc, take_all, take-add, ext_get_or, get_or-take, length-take-le, drop-drop}
+use borrow.Rule.Slice.PartMut.{put_mid}
+use Rattle.std.proofs.lemmas.Slice.{put_mid-paste}
 use Rattle.verdict.specs.Output.{over}
 use Rattle.verdict.proofs.Bools.{decided}
 use Rattle.verdict.proofs.Output.{over_is, over_none, length_over, drop_over, take_over}
@@ -16,6 +18,7 @@ use Rattle.wire.proofs.Put.{put_append, put_is}
 use Rattle.wire.proofs.Numbers.{length_u32}
 use Rattle.wire.proofs.Runs.{bytes_append, length_bytes, read_spelled, joined_append}
 use Rattle.tables.specs.Tables.{table_at, width}
+use Rattle.tables.specs.declared.Table.{Table}
 use Rattle.tables.specs.Header.{magic, floor_tables, RightHeader}
 use Rattle.tables.specs.Parts.{Parts, parts_of, table_of, table_words, count_of, words_in}
 use Rattle.tables.specs.Fixed.{start_of, fields_of, form_of, Sized}
@@ -33,15 +36,16 @@ over_put done o vs at e l =
     put_is vs (over done o) at (rw (length_over done o (omega arith)) l)
     ∙ rw (take_over done o at e, drop_over done o at e (length vs)) (over_is (done ++ vs) o (at + length vs) (length-append done vs ∙ omega arith))
 
--- one byte more of a copy
-pub copied_more : (d : List ℕ) (at : ℕ) (s : List ℕ) (from j : ℕ) (e : List ℕ) → e ≡ put d at (take j (drop from s)) → from + j < length s
-    → set e (at + j) (get_or s (from + j) 0) ≡ put d at (take (j + 1) (drop from s))
-unfolding put
-copied_more d at s from j e h l =
-    let r = drop from s in
-    let short : j < length r = rw (length-drop from s) (omega arith) in
-    rw (h, add-one j, take-suc r j 0 short, get_or-drop from s j 0)
-    (sym (put_append (take j r) (get_or s (from + j) 0 ∷ []) d at ∙ ap (λ (n : ℕ). put (put d at (take j r)) (at + n) (get_or s (from + j) 0 ∷ [])) (length-take-le j r (omega arith))))
+-- n bytes copied over a part
+pub part_copied : (d e s : List ℕ) (at from n : ℕ) → at + n ≤ length d → from + n ≤ length s → e ≡ take (from + n - from) (drop from s)
+    → put_mid at (at + n - at) d e ≡ put d at (take n (drop from s))
+part_copied d e s at from n l m q =
+    let short : length (take n (drop from s)) ≡ n = length-take-le n (drop from s) (rw (length-drop from s) (omega arith)) in
+    let a : at + n - at ≡ n = omega arith in
+    let f : from + n - from ≡ n = omega arith in
+    rw (a, q, f)
+    (put_mid-paste at n d (take n (drop from s)) (take n (drop from s)) n refl refl (sym short)
+    ∙ sym (put_is (take n (drop from s)) d at (omega (arith, short)) ∙ rw (short, take_all n (take n (drop from s)) (omega (arith, short))) refl))
 
 pub sum_more : (n : ℕ) {a b : ℕ} → b ≡ a + n → a ≤ b
 sum_more n e = omega arith
@@ -125,10 +129,6 @@ unfolding bytes_of words_at
 part_read b y at zero h = refl
 part_read b y at (suc n) h = sym (read_spelled b y (suc n) at (h (omega arith)))
 
-part_long : (b : List ℕ) (at n : ℕ) → (0 < n → at + 4 * n ≤ length b) → length (take (4 * n) (drop at b)) ≡ 4 * n
-part_long b at zero h = refl
-part_long b at (suc n) h = length-take-le (4 * suc n) (drop at b) (rw (length-drop at b) (let q = h (omega arith) in omega arith))
-
 -- the running position, in the file's own numbers
 module _ (b : List ℕ) (r : RightHeader b) where
   pub start_next : (k : ℕ) → k < 9 → start_of (parts_of b) (k + 1) ≡ start_of (parts_of b) k + 4 * words_in b k
@@ -147,6 +147,13 @@ start_few n f k l =
 pub start_by_more : (n : Numbers) (k : ℕ) → k < 9 → start_by n (k + 1) ≡ start_by n k + count_by n k * (table_at floor_tables k).size
 unfolding start_by
 start_by_more n k l = let one : k + 1 ≡ suc k = omega arith in rw one (ap (λ (m : ℕ). start_by n k + m) (sym (in_words (count_by n k) k l)))
+
+-- the running position past one table more, as the code counts it
+pub start_by_past : (n : Numbers) → Few n → (k : ℕ) {at a : ℕ} {t : Table} → k < 9 → at ≡ start_by n k → a ≡ count_by n k → t ≡ table_at floor_tables k
+    → (at + a * t.size ≡ start_by n (k + 1)) × (at + a * t.size ≤ 737372)
+start_by_past n f k {at} {a} {t} l e p q =
+    let is : at + a * t.size ≡ start_by n (k + 1) = rw (e, p, q) (sym (start_by_more n k l)) in
+    (is, rw is (start_few n f (k + 1) (omega arith)))
 
 -- no table has more than 12,288 entries
 pub count_few : (n : Numbers) → Few n → (k : ℕ) → k < 9 → count_by n k ≤ 12288
@@ -187,16 +194,6 @@ module _ (b : List ℕ) (r : RightHeader b) (y : Bytes b) where
   pub table_read : (k : ℕ) → k < 9 → take (4 * words_in b k) (drop (u32_at b (table_at floor_tables k).offset) b) ≡ bytes_of (table_of (parts_of b) k)
   unfolding table_words
   table_read k l = rw (table_is b k l) (part_read b y (u32_at b (table_at floor_tables k).offset) (words_in b k) (λ m. (table_inside b r k l m).1))
-
-  -- one table more
-  pub table_written : (o out : List ℕ) {out₁ : List ℕ} {at : ℕ} (k : ℕ) → k < 9 → start_of (parts_of b) (k + 1) ≤ length o → out ≡ over (form_up_to (parts_of b) k) o
-      → at ≡ start_of (parts_of b) k → out₁ ≡ put out at (take (4 * words_in b k) (drop (u32_at b (table_at floor_tables k).offset) b)) → out₁ ≡ over (form_up_to (parts_of b) (k + 1)) o
-  table_written o out k l room e a w =
-      let p = parts_of b in
-      let h = sized_of b r in
-      let n = part_long b (u32_at b (table_at floor_tables k).offset) (words_in b k) (λ m. (table_inside b r k l m).1) in
-      rw (w, a, e) (over_put (form_up_to p k) o _ (start_of p k) (up_length p h k) (omega (arith, n, start_next b r k l))
-      ∙ ap (λ (d : List ℕ). over d o) (ap (λ (d : List ℕ). form_up_to p k ++ d) (table_read k l) ∙ up_more p h k l))
 
   -- the header
   pub head_written : (n : Numbers) (o : List ℕ) {o₁ o₂ o₃ : List ℕ} → 136 ≤ length o → let f = fields_by n in

@@ -28,14 +28,13 @@ fn copy_part(src: &[u8], from: usize, dst: &mut [u8], at: usize, n: usize)
     requires { (0 < n → from + n ≤ length src.now) × (at + n ≤ length dst.old) }
     ensures { dst.new ≡ put dst.old at (take n (drop from src.now)) }
 {
-    let mut j = 0;
-    while j < n {
-        dst[at + j] = src[from + j];
-        j += 1;
+    if 0 < n {
+        dst[at..at + n].copy_from_slice(&src[from..from + n]);
     }
 }
 
 // The counts and the root of a file.
+#[tactic(auto, unfolding(crate::specs::Written::numbers_of))]
 pub fn numbers_of(bytes: &[u8]) -> Numbers
     requires { RightHeader bytes.now }
     ensures { result ≡ numbers_of (parts_of bytes.now) }
@@ -87,17 +86,16 @@ pub fn start_by(n: Numbers, k: usize) -> usize
     ensures { (result ≡ start_by n k) × (result ≤ 737372) }
 {
     let mut at = 136;
-    let mut j = 0;
-    while j < k {
+    for j in 0..k {
         let t = tables::table_at(j);
         let size = t.size;
         at += count_by(n, j) * size;
-        j += 1;
     }
     at
 }
 
 // The length of the fixed form.
+#[tactic(auto, using(tables::proofs::Reading::sized_of, tables::proofs::Reform::whole_length, tables::proofs::Reform::length_form, crate::proofs::Parted::start_by_lem, crate::proofs::Parted::few_numbers))]
 pub fn form_length(bytes: &[u8]) -> usize
     requires { RightHeader bytes.now }
     ensures { (result ≡ length (form_of (parts_of bytes.now))) × (result ≤ 737372) }
@@ -122,6 +120,7 @@ fn count_word(n: Numbers, k: usize) -> u32
 }
 
 // Four words, one after the other.
+#[tactic(auto, using(crate::proofs::Parted::four_words))]
 fn put_four(out: &mut [u8], at: usize, a: u32, b: u32, c: u32, d: u32)
     requires { at + 16 ≤ length out.old }
     ensures { out.new ≡ put out.old at (bytes_of (a ∷ b ∷ c ∷ d ∷ [])) }
@@ -177,6 +176,7 @@ pub fn copy_table(bytes: &[u8], k: usize, out: &mut [u8], at: usize) -> usize
 }
 
 // The header of a fixed form: the file's own first 72 bytes, then these counts, this root and the offsets that follow from them.
+#[tactic(auto, using(tables::proofs::Right::header_met, crate::proofs::Parted::head_written))]
 pub fn write_head(bytes: &[u8], n: Numbers, out: &mut [u8])
     requires { RightHeader bytes.now × Few n × (136 ≤ length out.old) }
     ensures { out.new ≡ over (head_by (parts_of bytes.now).floats n) out.old }
@@ -194,9 +194,7 @@ pub fn write_form(bytes: &[u8], out: &mut [u8])
     let n = numbers_of(bytes);
     write_head(bytes, n, out);
     let mut at = 136;
-    let mut k = 0;
-    while k < 9 {
+    for k in 0..9 {
         at = copy_table(bytes, k, out, at);
-        k += 1;
     }
 }

@@ -6,11 +6,12 @@ ghost use Rattle.verdict.specs.Memory.{work_size, SamePast};
 ghost use Rattle.tables.specs.Header.{RightHeader};
 ghost use Rattle.tables.specs.Parts.{parts_of, word_place};
 ghost use Rattle.verdict.specs.Verdict.{accepted};
+ghost use Rattle.verdict.specs.Refusals.{verdict_of, told_form};
 ghost use Rattle.floor.specs.Reader.{reader_verdict, walkable_faces, answer_of, reader_answer, reader_memory};
-ghost use Rattle.floor.specs.Rewrite.{rewrite_verdict, rewrite_answer, rewrite_memory};
+ghost use Rattle.floor.specs.Rewrite.{rewrite_answer, rewrite_memory};
 ghost use Rattle.floor.specs.Groups.{rules7to12, rules15to19, rules1to14, rules1to15, rules1to19};
 
-use verdict::{Answer, Form};
+use verdict::{Form, Refusal, Refused, Verdict};
 
 // What the reader answers: a number, a place, and the counts, which are 0 on refusal.
 #[repr(C)]
@@ -25,80 +26,70 @@ pub struct Floor {
 }
 
 // Rules 7 to 12 of a file with a right header.
-fn shape_verdict(bytes: &[u8]) -> Answer
+#[tactic(auto, using(verdict::proofs::Results::here, verdict::proofs::Results::past), unfolding(crate::specs::Groups::rules7to12))]
+fn shape_verdict(bytes: &[u8]) -> Verdict
     requires { RightHeader bytes.now }
-    ensures { result ≡ rules7to12 (word_place bytes.now) (parts_of bytes.now) }
+    ensures { verdict_of result ≡ rules7to12 (word_place bytes.now) (parts_of bytes.now) }
 {
-    let so = mesh::mesh_verdict(bytes);
-    nodes::then_nodes(so, bytes)
+    mesh::mesh_verdict(bytes)?;
+    nodes::nodes_verdict(bytes)
 }
 
 // Rules 15 to 19.
-pub fn borders_verdict(bytes: &[u8], work: &mut [u8]) -> Answer
+#[tactic(auto, using(verdict::proofs::Results::here, verdict::proofs::Results::past), unfolding(crate::specs::Groups::rules15to19))]
+pub fn borders_verdict(bytes: &[u8], work: &mut [u8]) -> Verdict
     requires { RightHeader bytes.now × (work_size ≤ length work.old) }
-    ensures answer { result ≡ rules15to19 (parts_of bytes.now) }
+    ensures answer { verdict_of result ≡ rules15to19 (parts_of bytes.now) }
     ensures memory { SamePast work.new work.old }
 {
-    let pairs = pairs::pairs_verdict(bytes, work);
-    if pairs.number != 0 {
-        return pairs;
-    }
+    pairs::pairs_verdict(bytes, work)?;
     border::loops_verdict(bytes, work)
 }
 
 // Rules 1 to 14, with work memory enough.
-fn rules_1_to_14(bytes: &[u8], work: &mut [u8]) -> Answer
+#[tactic(auto, using(verdict::proofs::Results::here, verdict::proofs::Results::past), unfolding(crate::specs::Groups::rules1to14))]
+fn rules_1_to_14(bytes: &[u8], work: &mut [u8]) -> Verdict
     requires { work_size ≤ length work.old }
-    ensures answer { result ≡ rules1to14 bytes.now }
+    ensures answer { verdict_of result ≡ rules1to14 bytes.now }
     ensures memory { SamePast work.new work.old }
 {
-    let header = header::header_verdict(bytes);
-    if header.number != 0 {
-        return header;
-    }
-    let shape = shape_verdict(bytes);
-    if shape.number != 0 {
-        return shape;
-    }
+    header::header_verdict(bytes)?;
+    shape_verdict(bytes)?;
     tree::tree_verdict(bytes, work)
 }
 
 // Rules 1 to 15, with work memory enough.
-pub fn rules_1_to_15(bytes: &[u8], work: &mut [u8]) -> Answer
+#[tactic(auto, using(verdict::proofs::Results::here, verdict::proofs::Results::past), unfolding(crate::specs::Groups::rules1to15))]
+pub fn rules_1_to_15(bytes: &[u8], work: &mut [u8]) -> Verdict
     requires { work_size ≤ length work.old }
-    ensures answer { result ≡ rules1to15 bytes.now }
+    ensures answer { verdict_of result ≡ rules1to15 bytes.now }
     ensures memory { SamePast work.new work.old }
 {
-    let early = rules_1_to_14(bytes, work);
-    if early.number != 0 {
-        return early;
-    }
+    rules_1_to_14(bytes, work)?;
     pairs::runs_verdict(bytes, work)
 }
 
 // Rules 1 to 19, with work memory enough.
-fn floor_verdict(bytes: &[u8], work: &mut [u8]) -> Answer
+#[tactic(auto, using(verdict::proofs::Results::here, verdict::proofs::Results::past), unfolding(crate::specs::Groups::rules1to19))]
+fn floor_verdict(bytes: &[u8], work: &mut [u8]) -> Verdict
     requires { work_size ≤ length work.old }
-    ensures answer { result ≡ rules1to19 bytes.now }
+    ensures answer { verdict_of result ≡ rules1to19 bytes.now }
     ensures memory { SamePast work.new work.old }
 {
-    let early = rules_1_to_14(bytes, work);
-    if early.number != 0 {
-        return early;
-    }
+    rules_1_to_14(bytes, work)?;
     borders_verdict(bytes, work)
 }
 
 // The reader's refusals. The rules use the work memory as they like; here, once, it is made zero. What lies past it is as it was.
-pub fn read_verdict(bytes: &[u8], work: &mut [u8]) -> Answer
-    ensures answer { result ≡ reader_verdict bytes.now (length work.old) }
+pub fn read_verdict(bytes: &[u8], work: &mut [u8]) -> Verdict
+    ensures answer { verdict_of result ≡ reader_verdict bytes.now (length work.old) }
     ensures memory { work.new ≡ reader_memory work.old }
 {
     if work.len() < verdict::WORK_SIZE {
-        return Answer {
-            number: 20,
+        return Err(Refused {
+            refusal: Refusal::WorkMemory,
             place: 0,
-        };
+        });
     }
     let so = floor_verdict(bytes, work);
     verdict::clear_to(work, verdict::WORK_SIZE);
@@ -106,6 +97,7 @@ pub fn read_verdict(bytes: &[u8], work: &mut [u8]) -> Answer
 }
 
 // The answer for an accepted floor.
+#[tactic(auto, unfolding(crate::specs::Reader::answer_of))]
 fn counted(bytes: &[u8]) -> Floor
     requires { RightHeader bytes.now × (walkable_faces (parts_of bytes.now) ≡ (parts_of bytes.now).adjacency) }
     ensures { result ≡ answer_of accepted (parts_of bytes.now) }
@@ -129,30 +121,36 @@ pub fn read(bytes: &[u8], work: &mut [u8]) -> Floor
     ensures answer { result ≡ reader_answer bytes.now (length work.old) }
     ensures memory { work.new ≡ reader_memory work.old }
 {
-    let so = read_verdict(bytes, work);
-    if so.number != 0 {
-        return Floor {
-            number: so.number,
-            place: so.place,
+    match read_verdict(bytes, work) {
+        Ok(()) => counted(bytes),
+        Err(refused) => Floor {
+            number: refused.refusal.number(),
+            place: refused.place,
             faces: 0,
             walkable: 0,
             edges: 0,
             perimeters: 0,
-        };
+        },
     }
-    counted(bytes)
 }
 
-// The rewriter's refusals: the reader's, then 40.
-fn rewrite_verdict(bytes: &[u8], work: &mut [u8], out: &[u8]) -> Answer
-    ensures answer { result ≡ rewrite_verdict bytes.now (length work.old) (length out.now) }
+// The rewriter's refusals, the reader's and then 40, or the form written: how many bytes.
+#[tactic(auto, using(verdict::proofs::Results::here, verdict::proofs::Results::past, verdict::proofs::Results::refused_answer, verdict::proofs::Results::refused_memory, verdict::proofs::Results::written_answer, verdict::proofs::Results::written_memory), unfolding(crate::specs::Rewrite::rewrite_answer, crate::specs::Rewrite::rewrite_memory, crate::specs::Rewrite::rewrite_verdict, crate::specs::Rewrite::fixed_form))]
+fn rewritten(bytes: &[u8], work: &mut [u8], out: &mut [u8]) -> Result<u32, Refused>
+    ensures answer { told_form result ≡ rewrite_answer bytes.now (length work.old) (length out.old) }
     ensures memory { work.new ≡ reader_memory work.old }
+    ensures output { out.new ≡ rewrite_memory bytes.now (length work.old) out.old }
 {
-    let so = read_verdict(bytes, work);
-    if so.number != 0 {
-        return so;
+    read_verdict(bytes, work)?;
+    let length = fixed::form_length(bytes);
+    if out.len() < length {
+        return Err(Refused {
+            refusal: Refusal::OutputShort,
+            place: 0,
+        });
     }
-    verdict::first_rule(40, out.len() < fixed::form_length(bytes), 0)
+    fixed::write_form(bytes, out);
+    Ok(length as u32)
 }
 
 // The rewriter: any bytes, any work memory, any output. Of the output nothing is changed on refusal, and nothing past the form.
@@ -161,15 +159,5 @@ pub fn rewrite(bytes: &[u8], work: &mut [u8], out: &mut [u8]) -> Form
     ensures memory { work.new ≡ reader_memory work.old }
     ensures output { out.new ≡ rewrite_memory bytes.now (length work.old) out.old }
 {
-    let found = rewrite_verdict(bytes, work, out);
-    if found.number != 0 {
-        return verdict::refused_form(found.number, found.place);
-    }
-    let length = fixed::form_length(bytes);
-    fixed::write_form(bytes, out);
-    Form {
-        number: 0,
-        place: 0,
-        length: length as u32,
-    }
+    Form::from(rewritten(bytes, work, out))
 }

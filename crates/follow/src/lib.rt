@@ -52,6 +52,7 @@ fn ring_from(bytes: &[u8], work: &mut [u8], i: usize, j: usize, h: usize) -> usi
     let start = corners::from_of(bytes, work, h);
     let mut end = step(bytes, work, i, h);
     let mut n = i + 1;
+    // No count: the ring ends where it began.
     while end != start {
         let g = wire::u16_at(work, 2 * end);
         end = step(bytes, work, n, g);
@@ -62,6 +63,7 @@ fn ring_from(bytes: &[u8], work: &mut [u8], i: usize, j: usize, h: usize) -> usi
 
 // Whether half-edge c is a border not yet used: the head of its vertex has not gone past it. The edges and rings so far are named for the promise
 // alone.
+#[tactic(auto, using(crate::proofs::Floors::small_of, crate::proofs::Floors::asked_ends, crate::proofs::Floors::asked_border, crate::proofs::Passing::free_border, crate::proofs::Passing::free_not))]
 fn is_free(bytes: &[u8], work: &[u8], i: usize, j: usize, c: usize) -> bool
     requires ready { Ready bytes.now work.now }
     requires passed { Passed (web_in bytes.now) work.now i j c }
@@ -112,10 +114,8 @@ fn empty_chains(bytes: &[u8], work: &mut [u8])
     ensures memory { SameMates work.new work.old }
 {
     let n = pairs::halves_of(bytes);
-    let mut v = 0;
-    while v < VERTICES {
+    for v in 0..VERTICES {
         wire::put_u16(work, 2 * v, n);
-        v += 1;
     }
 }
 
@@ -142,9 +142,7 @@ fn chain_all(bytes: &[u8], work: &mut [u8])
     ensures memory { Ready bytes.now work.new × SameTop work.new work.old }
 {
     empty_chains(bytes, work);
-    let mut h = pairs::halves_of(bytes);
-    while h > 0 {
-        h -= 1;
+    for h in (0..pairs::halves_of(bytes)).rev() {
         chain_one(bytes, work, h);
     }
 }
@@ -160,10 +158,8 @@ pub fn all_rings(bytes: &[u8], work: &mut [u8]) -> Counts
     let n = pairs::halves_of(bytes);
     chain_all(bytes, work);
     let mut so = Counts { edges: 0, rings: 0 };
-    let mut c = 0;
-    while c < n {
+    for c in 0..n {
         so = turn(bytes, work, so, c);
-        c += 1;
     }
     so
 }

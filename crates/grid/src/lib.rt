@@ -7,65 +7,30 @@ ghost use Rattle.std.specs.Float.Ieee.{of_bits};
 ghost use Rattle.grid.specs.Grid.{finite, plain, within, grid_float, may_nudge, nudge_bits};
 ghost use Rattle.grid.specs.Answers.{size_at, scaled_at, nudged_at};
 
-// Whether a float is on the grid, and its size in sixty-fourths.
-#[derive(Clone, Copy)]
-pub struct Size64 {
-    pub on: bool,
-    pub n: u32,
-}
-
-// Whether a float is on the grid, and its scaled number.
-#[derive(Clone, Copy)]
-pub struct Scaled64 {
-    pub on: bool,
-    pub v: i64,
-}
-
-// Whether a nudge may be made, and the bits after it.
-#[derive(Clone, Copy)]
-pub struct Nudged {
-    pub ok: bool,
-    pub bits: u32,
-}
-
-// Whether the float with the bits b is on the grid, and its size in sixty-fourths: by its exponent's field and its digits, so that
-// every pattern may be asked, a NaN's too.
-pub fn size_of(b: u32) -> Size64
+// The size in sixty-fourths of the float with the bits b, none off the grid: by its exponent's field and its digits, so that every
+// pattern may be asked, a NaN's too.
+pub fn size_of(b: u32) -> Option<u32>
     ensures { result ≡ size_at b }
 {
     let e = b % 2147483648 / 8388608;
     let m = 8388608 + b % 8388608;
     if b % 2147483648 == 0 {
-        return Size64 { on: true, n: 0 };
+        return Some(0);
     }
-    if e < 121 {
-        return Size64 { on: false, n: 0 };
-    }
-    if 143 < e {
-        return Size64 { on: false, n: 0 };
+    if e < 121 || 143 < e {
+        return None;
     }
     let d = 1u32 << (144 - e);
     let n = m / d;
-    if m % d != 0 {
-        return Size64 { on: false, n: 0 };
-    }
-    if 65536 < n {
-        return Size64 { on: false, n: 0 };
-    }
-    Size64 { on: true, n }
+    (m % d == 0 && n <= 65536).then_some(n)
 }
 
-// The same with the sign.
-pub fn scaled_of(b: u32) -> Scaled64
+// The same with the sign: the scaled number, none off the grid.
+pub fn scaled_of(b: u32) -> Option<i64>
     ensures { result ≡ scaled_at b }
 {
-    let z = size_of(b);
-    let v = z.n as i64;
-    if b < 2147483648 {
-        Scaled64 { on: z.on, v }
-    } else {
-        Scaled64 { on: z.on, v: 0 - v }
-    }
+    let n = size_of(b)? as i64;
+    Some(if b < 2147483648 { n } else { -n })
 }
 
 // Whether z is within ±k.
@@ -77,6 +42,7 @@ pub fn is_within(z: i64, k: u32) -> bool
 }
 
 // z sixty-fourths.
+#[tactic(auto, using(crate::proofs::Grid::step_is, crate::proofs::Grid::step_in))]
 pub fn float_of(z: i64) -> f32
     requires { within 65536 z ≡ true }
     ensures { result ≡ grid_float z }
@@ -94,11 +60,10 @@ fn may_nudge(b: u32, n: i64) -> bool
     if !is_within(n, LARGEST_STEP) {
         return false;
     }
-    let z = scaled_of(b);
-    if !z.on {
+    let Some(z) = scaled_of(b) else {
         return false;
-    }
-    is_within(z.v + n, 65536)
+    };
+    is_within(z + n, 65536)
 }
 
 // The nudge itself: one f32 addition. The step is made from a whole number, so it is never minus zero, and neither is the sum.
@@ -110,21 +75,15 @@ fn moved(b: u32, n: i64) -> u32
     f32::to_bits(y)
 }
 
-// The nudge where it may be made, else the old bits.
-pub fn nudge(b: u32, n: i64) -> Nudged
+// The bits after the nudge, none where it may not be made.
+pub fn nudge(b: u32, n: i64) -> Option<u32>
     ensures { result ≡ nudged_at b n }
 {
-    if may_nudge(b, n) {
-        Nudged {
-            ok: true,
-            bits: moved(b, n),
-        }
-    } else {
-        Nudged { ok: false, bits: b }
-    }
+    may_nudge(b, n).then(|| moved(b, n))
 }
 
 // Whether the float with the bits b is finite.
+#[tactic(auto, using(crate::proofs::Finite::finite_bits))]
 pub fn is_finite(b: u32) -> bool
     ensures { result ≡ finite (of_bits binary32 b) }
 {
@@ -132,6 +91,7 @@ pub fn is_finite(b: u32) -> bool
 }
 
 // The word of a float, with zero's for minus zero's.
+#[tactic(auto, unfolding(crate::specs::Grid::plain))]
 pub fn plain_of(b: u32) -> u32
     ensures { result ≡ plain b }
 {
@@ -142,6 +102,7 @@ pub fn plain_of(b: u32) -> u32
 }
 
 // The float with some bits.
+#[tactic(auto, using(crate::proofs::Finite::finite_no_nan))]
 pub fn float_of_bits(bits: u32) -> f32
     requires { finite (of_bits binary32 bits) ≡ true }
     ensures { result ≡ of_bits binary32 bits }

@@ -25,6 +25,7 @@ pub struct Height {
 }
 
 // Corner c of face f.
+#[tactic(auto, using(wire::proofs::Signed::read_within, query::proofs::Reaches::corner_read, crate::proofs::Answers::corner_made))]
 fn corner_at(bytes: &[u8], f: usize, c: usize) -> Corner
     requires { Ready bytes.now × (f < (parts_of bytes.now).faces) × (c < 3) }
     ensures { (result ≡ corner_of (parts_of bytes.now) f c) × Near result }
@@ -48,6 +49,7 @@ fn face_height(bytes: &[u8], f: usize, x: i64, y: i64) -> i64
 }
 
 // The query's answer with a height beside it.
+#[tactic(auto, unfolding(crate::specs::Feet::with_height))]
 fn with_height(q: Point, height: i32) -> Height
     ensures { result ≡ with_height q height }
 {

@@ -1,4 +1,4 @@
+pub mod Chains
 pub mod Owners
 pub mod Shifts
-pub mod Loops
 pub mod Plain

@@ -1,19 +1,24 @@
 -- What is found by search is what the words say, both ways: a bench that holds none, its latest record, and a record that is blocked.
 -- Assumes nothing.
 use mathlib.Core.Path.{◌≡◌}
-use mathlib.Core.Bool.{true, ◌&&◌}
+use mathlib.Core.Bool.{Bool, true, ◌&&◌}
 use Prim.Native.Nat.{ℕ}
+use native.Mathlib.Decide.{ℕ_discrete}
 use lib.Dec.{ltb, eqb}
 use borrow.Author.Tests.{eq-eqb, ne_eqb, lt-ltb, ltb-true, eqb-true, eqb-false}
+use Rattle.std.specs.declared.option.Option.TheVariants.{None, Some}
 use Rattle.verdict.specs.Lowest.{lowest}
-use Rattle.verdict.proofs.Bools.{and_true, true_and}
+use Rattle.verdict.proofs.Bools.{and_true, true_and, decided}
 use Rattle.verdict.proofs.Lists.{tally_none, none_tally}
 use Rattle.verdict.proofs.Lowest.{some_under, found_under}
 use Rattle.verdict.proofs.Highest.{highest_is, highest_only}
 use Rattle.record.specs.declared.Rec.{Rec}
-use Rattle.holding.specs.Held.{is_of, same_field, other, held, latest, blocked}
+use Rattle.holding.specs.Held.{is_of, same_field, other, held, latest, latest_held, blocked}
 use Rattle.holding.specs.Plain.{HoldsNone, IsLatest, Blocked}
-use Rattle.holding.proofs.Loops.{hindering}
+
+-- the test of 43 that is made of record x
+abbrev pub hindering : (ℕ → Rec) → ℕ → ℕ → ℕ → Bool
+hindering at bench i x = ltb i x && is_of (other bench) (at x) && same_field (at i) (at x)
 
 module _ (at : ℕ → Rec) (f bench : ℕ) where
   -- ---- none
@@ -38,6 +43,19 @@ module _ (at : ℕ → Rec) (f bench : ℕ) where
   unfolding latest is_of
   plain_latest i h =
       highest_only f (λ k. is_of bench (at k)) i (record { under = h.under; holds = eq-eqb _ bench h.own; above = λ j l m. ne_eqb _ bench (h.last j l m) })
+
+  -- a latest record is told just where the bench holds one
+  pub held_some : (i : ℕ) → Some i ≡ latest_held at f bench → (held at f bench ≡ 0 → ⊥) × (i ≡ latest at f bench)
+  unfolding latest_held
+  held_some i e =
+      decided (ℕ_discrete (held at f bench) 0) (λ z. absurd (let h : Some i ≡ None = rw (eq-eqb (held at f bench) 0 z) at e in cc))
+      (λ ne. (ne, let h : Some i ≡ Some (latest at f bench) = rw (ne_eqb (held at f bench) 0 ne) at e in cc))
+
+  pub held_none : None ≡ latest_held at f bench → held at f bench ≡ 0
+  unfolding latest_held
+  held_none e =
+      decided (ℕ_discrete (held at f bench) 0) (λ z. z)
+      (λ ne. absurd (let h : None ≡ Some (latest at f bench) = rw (ne_eqb (held at f bench) 0 ne) at e in cc))
 
   -- ---- 43
 

@@ -1,6 +1,6 @@
 -- M-108: who holds which record: a bench's records, its latest one, whether that one is blocked (43), and a record taken out. `at` says
 -- what record i is, in a journal or in a list, and f how many there are: the same words for both. Definitions only.
-use Rattle.std.specs.Prelude.{ℕ, ◌+◌, ◌-◌, ◌*◌, Bool, ◌&&◌, List, get_or, eqb, ltb}
+use Rattle.std.specs.Prelude.{ℕ, ◌+◌, ◌-◌, ◌*◌, Bool, cond, ◌&&◌, List, Option, Some, None, get_or, eqb, ltb}
 use Rattle.std.proofs.Math.Seq.{slice}
 use Rattle.verdict.specs.Lists.{tally}
 use Rattle.verdict.specs.Lowest.{any_under, highest}
@@ -35,6 +35,10 @@ module _ (at : ℕ → Rec) (f bench : ℕ) where
   -- which one is its latest
   unfoldable pub latest : ℕ
   latest = highest f (λ i. is_of bench (at i))
+
+  -- its latest record, if it holds one
+  unfoldable pub latest_held : Option ℕ
+  latest_held = cond (eqb held 0) None (Some latest)
 
   -- 43: a later record of the other bench has the same tag and place as record i
   unfoldable pub blocked : ℕ → Bool

@@ -1,17 +1,20 @@
 -- The powers of ten in code; and a number of 32 bits reads back from its digits. Assumes nothing.
-use mathlib.Core.Path.{◌≡◌, refl, ap}
-use mathlib.Core.Bool.{true}
+use mathlib.Core.Path.{◌≡◌, refl, sym, ap, ◌∙◌}
+use mathlib.Core.Bool.{true, false}
 use mathlib.Core.List.{List, [], ◌∷◌}
 use Prim.Native.Nat.{ℕ, ◌+◌, ◌^◌, ◌<◌, ◌≤◌}
 use native.Mathlib.Omega.{arith}
 use native.Mathlib.Nat.{add_comm}
 use native.Mathlib.Decide.{dec_lt}
-use lib.Dec.{eqb, ltb}
+use lib.Dec.{eqb, leb, ltb}
 use lib.ListN.{get_or}
-use borrow.Author.Tests.{eqb-true, ltb-true}
+use borrow.Author.Tests.{eqb-true, ltb-true, ltb-false, le-leb, lt-leb}
+use Rattle.std.proofs.lemmas.List.Sums.{prefix_len_is}
 use Rattle.verdict.specs.Lowest.{lowest, any_under, all_under}
 use Rattle.verdict.proofs.Bools.{decided}
 use Rattle.verdict.proofs.Lowest.{all_true, lowest_is}
+use Rattle.text.specs.Scan.{run}
+use Rattle.text.proofs.RunLaws.{run_is_prefix}
 use Rattle.number.specs.Count.{value}
 use Rattle.number.proofs.NumberTrip.{fixed_value}
 use Rattle.inspect.specs.Line.{has_up_to, digit_count, decimal}
@@ -23,9 +26,26 @@ all_powers : all_under 9 (λ k. eqb (get_or powers k 0) (10 ^ (k + 1))) ≡ true
 unfolding all_under any_under lowest
 all_powers = refl
 
-pub power_at : (n k : ℕ) → k < 9 → ltb n (get_or powers k 0) ≡ has_up_to n k
+power_at : (n k : ℕ) → k < 9 → ltb n (get_or powers k 0) ≡ has_up_to n k
 unfolding has_up_to
 power_at n k l = ap (ltb n) (eqb-true _ _ (all_true (λ j. eqb (get_or powers j 0) (10 ^ (j + 1))) 9 all_powers k l))
+
+-- how many powers are at most n, counted up to the first that is not
+pub reached : (n : ℕ) → run (λ p. leb p n) powers ≡ lowest 9 (has_up_to n)
+reached n =
+    let l = lowest_is (has_up_to n) 9 in
+    sym (run_is_prefix (λ p. leb p n) powers)
+    ∙ prefix_len_is (λ p. leb p n) powers (lowest 9 (has_up_to n)) 0 l.within (λ k m. on k (power_at n k (omega (arith, l.within)) ∙ l.before k m))
+    (λ m. off (lowest 9 (has_up_to n)) (power_at n _ m ∙ l.holds m))
+  where
+    on : (k : ℕ) → ltb n (get_or powers k 0) ≡ false → leb (get_or powers k 0) n ≡ true
+    on k e = le-leb (get_or powers k 0) n (ltb-false n (get_or powers k 0) e)
+
+    off : (k : ℕ) → ltb n (get_or powers k 0) ≡ true → leb (get_or powers k 0) n ≡ false
+    off k e = lt-leb (get_or powers k 0) n (ltb-true n (get_or powers k 0) e)
+
+pub reached_most : (n : ℕ) → lowest 9 (has_up_to n) ≤ 9
+reached_most n = (lowest_is (has_up_to n) 9).within
 
 pub few_digits : (n : ℕ) → digit_count n ≤ 10
 unfolding digit_count

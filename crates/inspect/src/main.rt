@@ -16,26 +16,11 @@ const POWERS: [u32; 9] = [
     10, 100, 1000, 10000, 100000, 1000000, 10000000, 100000000, 1000000000,
 ];
 
-// Whether n has at most k + 1 digits.
-fn is_under(n: u32, k: usize) -> bool
-    requires { k < 9 }
-    ensures { result ≡ has_up_to n k }
-{
-    n < POWERS[k]
-}
-
-// One less than the number of digits.
+// One less than the number of digits: how many of the powers are at most n.
 fn first_under(n: u32) -> usize
     ensures { (result ≡ lowest 9 (has_up_to n)) × (result ≤ 9) }
 {
-    let mut k = 0;
-    while k < 9 {
-        if is_under(n, k) {
-            return k;
-        }
-        k += 1;
-    }
-    9
+    POWERS.iter().take_while(|p| **p <= n).count()
 }
 
 fn put_decimal(out: &mut [u8], at: usize, n: u32) -> usize
@@ -108,6 +93,7 @@ fn read_full(mut input: Stdin, bytes: &mut [u8]) -> io::Result<usize>
     ensures { IfOk result (λ n. n ≤ length bytes.new) }
 {
     let mut done = 0;
+    // No count: reading ends where the input does, or where there is no room.
     while done < bytes.len() {
         let n = input.read(&mut bytes[done..])?;
         if n == 0 {

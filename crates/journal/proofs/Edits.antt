@@ -1,26 +1,24 @@
 -- What the code of the edits has to show, by the verdict. Assumes nothing.
-use mathlib.Core.Path.{◌≡◌, sym, ap, ◌∙◌}
-use mathlib.Core.Bool.{Bool, true, false, not}
+use mathlib.Core.Path.{◌≡◌, refl, sym, ap, ◌∙◌}
+use mathlib.Core.Bool.{true, false, not}
 use Prim.Native.Nat.{ℕ, ◌+◌, ◌*◌, ◌≤◌, ◌<◌}
+use mathlib.Core.List.{List}
 use native.Mathlib.Omega.{arith}
-use native.Mathlib.Decide.{dec_lt, ℕ_discrete}
-use lib.Dec.{leb, ltb}
-use borrow.Author.Tests.{ltb-true, lt-ltb, le-ltb, lt-leb, le-leb, not-false}
-use Rattle.verdict.specs.Verdict.{rule, ◌then◌}
+use borrow.Author.Tests.{ltb-true, not-false}
+use Rattle.std.specs.declared.result.Result.TheVariants.{Err}
+use Rattle.verdict.specs.Verdict.{refused, accepted, rule, ◌then◌}
+use Rattle.verdict.specs.Refusals.{number_of}
 use Rattle.verdict.specs.declared.Answer.{Answer}
-use Rattle.verdict.proofs.Bools.{decided}
-use Rattle.verdict.proofs.Verdict.{then_next, then_stop, then_assoc, passed, unbroken}
-use Rattle.record.specs.Record.{size}
-use Rattle.laying.specs.Kind.{Kind}
+use Rattle.verdict.specs.declared.Refused.{Refused}
+use Rattle.verdict.proofs.Results.{here, past, accepts, unbroken_by}
+use Rattle.verdict.proofs.Verdict.{then_next, then_assoc, passed, unbroken}
+use Rattle.wire.specs.Bytes.{put}
+use Rattle.record.specs.Record.{size, record_bytes}
+use Rattle.laying.specs.Kind.{Kind, lay}
 use Rattle.journal.specs.Wish.{Wish, asked}
 use Rattle.journal.specs.Lawful.{old_word}
-use Rattle.journal.specs.declared.Session.{Session}
-use Rattle.journal.specs.Step.{State, left, session, fit_in, common_verdict, done, record_of, full, is_full, rule21, edit_rules, open_verdict, edit_verdict, edited, edit_step}
-use Rattle.journal.proofs.Steps.{unless_next, unless_stop, few_room, CommonMet, common_met, edit_met, full_free}
-
--- a place outside, as the code tests it
-pub leb_not : (n i : ℕ) → leb n i ≡ not (ltb i n)
-leb_not n i = decided (dec_lt i n) (λ l. rw (lt-leb n i l, lt-ltb i n l)) (λ l. rw (le-leb n i (omega arith), le-ltb i n (omega arith)))
+use Rattle.journal.specs.Step.{State, Outcome, left, session, session_of, fit_in, common_verdict, record_of, full, is_full, rule21, edit_rules, open_verdict, edit_verdict, edit_step}
+use Rattle.journal.proofs.Steps.{refused_unless, accepted_unless, few_room, CommonMet, common_met, full_free}
 
 module _ (K : Kind) (bench : ℕ) (w : Wish) (s : State) where
   abbrev C : Answer
@@ -42,44 +40,46 @@ module _ (K : Kind) (bench : ℕ) (w : Wish) (s : State) where
   edit_chain = sym (then_assoc C (P then own_rule) rule25) ∙ ap (λ (a : Answer). a then rule25) (sym (then_assoc C P own_rule))
 
   -- before the old word is read
-  pub open_next : (open_verdict K bench w.tag w.place s).number ≡ 0 → edit_verdict K bench w s ≡ (own_rule then rule25)
+  open_next : (open_verdict K bench w.tag w.place s).number ≡ 0 → edit_verdict K bench w s ≡ (own_rule then rule25)
   unfolding open_verdict
   open_next z = edit_chain ∙ ap (λ (a : Answer). a then rule25) (then_next (C then P) own_rule z)
 
-  pub open_stop : ((open_verdict K bench w.tag w.place s).number ≡ 0 → ⊥) → edit_verdict K bench w s ≡ open_verdict K bench w.tag w.place s
-  unfolding open_verdict
-  open_stop z = edit_chain ∙ ap (λ (a : Answer). a then rule25) (then_stop (C then P) z own_rule) ∙ then_stop (C then P) z rule25
-
   -- an edit asks the wish of the old word alone, and for the new word only where it may be made
-  pub edit_as : (ok : Bool) (new : ℕ) → let old = old_word K s.floor w in ok ≡ w.may old → (w.may old ≡ true → new ≡ w.new old)
-      → edit_step K bench (asked w.tag w.place ok new) s ≡ edit_step K bench w s
+  own_met : accepted ≡ own_rule → w.may (old_word K s.floor w) ≡ true
+  own_met o = not-false _ (unbroken_by (21 + w.tag) _ w.place (omega arith) o)
+
+  pub edit_as : (new : ℕ) → let old = old_word K s.floor w in w.may old ≡ true → new ≡ w.new old → edit_step K bench (asked w.tag w.place true new) s ≡ edit_step K bench w s
   unfolding edit_step edit_verdict edit_rules
-  edit_as ok new e f =
-      let a = edit_verdict K bench w s in
-      let o = done (edited K (record_of K bench s.floor w) s) in
-      let p = done (edited K (record_of K bench s.floor (asked w.tag w.place ok new)) s) in
-      rw e
-      (decided (ℕ_discrete a.number 0)
-      (λ z. rw (f (edit_met K w s.floor (is_full bench s) (passed _ _ z).1).may))
-      (λ z. unless_stop a s p z ∙ sym (unless_stop a s o z)))
+  edit_as new e f = rw (e, f) refl
 
-  -- an edit that is refused before the old word is read
-  pub edit_stops : (a : Answer) (r : Session) → a ≡ open_verdict K bench w.tag w.place s → (a.number ≡ 0 → ⊥)
-      → r ≡ session a.number a.place s.f → left r s.floor s.journal ≡ edit_step K bench w s
+  pub edit_goes : {x : Outcome} (new : ℕ) → accepted ≡ own_rule → new ≡ w.new (old_word K s.floor w)
+      → x ≡ edit_step K bench (asked w.tag w.place true new) s → x ≡ edit_step K bench w s
+  edit_goes new o f e = e ∙ edit_as new (own_met o) f
+
+  -- an edit that is refused before the old word is read, by its own rule, and by 25
+  module _ (r : Refused) where
+    refuses : refused (number_of r.refusal) r.place ≡ edit_verdict K bench w s → left (session_of (Err r) s.f) s.floor s.journal ≡ edit_step K bench w s
+    unfolding edit_step
+    refuses e = refused_unless r s _ e
+
+    pub open_refuses : refused (number_of r.refusal) r.place ≡ open_verdict K bench w.tag w.place s → left (session_of (Err r) s.f) s.floor s.journal ≡ edit_step K bench w s
+    unfolding open_verdict
+    open_refuses e = refuses (here r rule25 (here r own_rule e) ∙ sym edit_chain)
+
+    pub own_refuses : accepted ≡ open_verdict K bench w.tag w.place s → refused (number_of r.refusal) r.place ≡ own_rule
+        → left (session_of (Err r) s.f) s.floor s.journal ≡ edit_step K bench w s
+    own_refuses o e = refuses (here r rule25 e ∙ sym (open_next (accepts o)))
+
+    pub full_refuses : (open_verdict K bench w.tag w.place s).number ≡ 0 → accepted ≡ own_rule → refused (number_of r.refusal) r.place ≡ rule25
+        → left (session_of (Err r) s.f) s.floor s.journal ≡ edit_step K bench w s
+    full_refuses z o e = refuses (past o e ∙ sym (open_next z))
+
+  -- and one that is done
+  pub edit_does : (fl j : List ℕ) → (open_verdict K bench w.tag w.place s).number ≡ 0 → accepted ≡ own_rule → accepted ≡ rule25
+      → fl ≡ lay K s.floor (record_of K bench s.floor w) → j ≡ put s.journal (size * s.f) (record_bytes (record_of K bench s.floor w))
+      → left (session 0 0 (s.f + 1)) fl j ≡ edit_step K bench w s
   unfolding edit_step
-  edit_stops a r e z h =
-      let y : (open_verdict K bench w.tag w.place s).number ≡ 0 → ⊥ = λ x. z (ap (λ (b : Answer). b.number) e ∙ x) in
-      rw (open_stop y, ← e, h) (sym (unless_stop a s _ z))
-
-  -- and one that is refused later, or done
-  module _ (a : Answer) (e : a ≡ edit_verdict K bench w s) where
-    pub late_stops : (r : Session) → (a.number ≡ 0 → ⊥) → r ≡ session a.number a.place s.f → left r s.floor s.journal ≡ edit_step K bench w s
-    unfolding edit_step
-    late_stops r z h = rw (← e, h) (sym (unless_stop a s _ z))
-
-    pub edit_does : a.number ≡ 0 → done (edited K (record_of K bench s.floor w) s) ≡ edit_step K bench w s
-    unfolding edit_step
-    edit_does z = rw (← e) (sym (unless_next a s _ z))
+  edit_does fl j z o e l n = rw (l, n) (accepted_unless s (past o e ∙ sym (open_next z)) refl)
 
 -- every call's rules and 21
 pub record OpenMet (K : Kind) (bench tag place : ℕ) (s : State) : Type 0 where

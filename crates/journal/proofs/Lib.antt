@@ -2,6 +2,7 @@ pub mod Laying
 pub mod Replays
 pub mod Steps
 pub mod Edits
+pub mod NoStep
 pub mod Outs
 pub mod Refused
 pub mod AcceptedEdits

@@ -1,5 +1,5 @@
 -- What a verdict of a call says: where it accepts, the facts that the rest goes by; and the outcome, by the verdict. Assumes nothing.
-use mathlib.Core.Path.{◌≡◌, ap, ◌∙◌}
+use mathlib.Core.Path.{◌≡◌, sym, ap, ◌∙◌}
 use mathlib.Core.Bool.{Bool, true, false}
 use Prim.Native.Nat.{ℕ, suc, ◌+◌, ◌*◌, ◌≤◌, ◌<◌}
 use mathlib.Core.List.{List}
@@ -7,15 +7,19 @@ use native.Mathlib.Omega.{arith}
 use lib.Dec.{leb, ltb, eqb}
 use lib.ListN.{length}
 use borrow.Author.Tests.{ltb-true, ltb-false, leb-false, eqb-false, lt-ltb, le-ltb, lt-leb, eq-eqb, ne_eqb, not-false}
-use Rattle.verdict.specs.Verdict.{accepted, ◌then◌}
+use Rattle.std.specs.declared.result.Result.TheVariants.{Err}
+use Rattle.verdict.specs.Verdict.{refused, accepted, ◌then◌}
+use Rattle.verdict.specs.Refusals.{number_of}
 use Rattle.verdict.specs.declared.Answer.{Answer}
+use Rattle.verdict.specs.declared.Refused.{Refused}
 use Rattle.verdict.proofs.Bools.{or_false, false_or}
 use Rattle.verdict.proofs.Verdict.{then_next, then_both, passed, unbroken, met, Proper, rule_proper, then_proper}
+use Rattle.verdict.proofs.Results.{accepts, number_positive}
 use Rattle.record.specs.Record.{size}
 use Rattle.laying.specs.Kind.{Kind}
 use Rattle.journal.specs.Wish.{Wish}
 use Rattle.journal.specs.Lawful.{old_word}
-use Rattle.journal.specs.Step.{State, Outcome, most_records, fit_in, half, rule28, rule45, common_verdict, refusal, unless, full, rule21, edit_rules}
+use Rattle.journal.specs.Step.{State, Outcome, left, session_of, most_records, fit_in, half, rule28, rule45, common_verdict, refusal, unless, full, rule21, edit_rules}
 
 -- ---- the outcome
 
@@ -26,6 +30,15 @@ unless_next a s o z = rw (eq-eqb a.number 0 z)
 pub unless_stop : (a : Answer) (s : State) (o : Outcome) → (a.number ≡ 0 → ⊥) → unless a s o ≡ refusal a s
 unfolding unless
 unless_stop a s o z = rw (ne_eqb a.number 0 z)
+
+-- what a refusal tells and leaves, and what is done where the verdict accepts
+pub refused_unless : (r : Refused) (s : State) (o : Outcome) {a : Answer} → refused (number_of r.refusal) r.place ≡ a
+    → left (session_of (Err r) s.f) s.floor s.journal ≡ unless a s o
+refused_unless r s o {a} e =
+    ap (λ (x : Answer). refusal x s) e ∙ sym (unless_stop a s o (λ z. absurd (omega (arith, number_positive r.refusal, ap (λ (x : Answer). x.number) e, z))))
+
+pub accepted_unless : (s : State) {x o : Outcome} {a : Answer} → accepted ≡ a → x ≡ o → x ≡ unless a s o
+accepted_unless s {x} {o} {a} e h = h ∙ sym (unless_next a s o (accepts e))
 
 -- ---- every call
 

@@ -1,8 +1,10 @@
 -- One call of a bench over a floor and a journal: what it answers and leaves, over any kind of floor, in the order of documents 01 and
 -- 02 (M-108). Definitions only.
-use Rattle.std.specs.Prelude.{ℕ, zero, suc, ◌+◌, ◌-◌, ◌*◌, ◌/◌, min, Bool, not, cond, ◌||◌, List, length, ltb, leb, eqb}
+use Rattle.std.specs.Prelude.{ℕ, zero, suc, ◌+◌, ◌-◌, ◌*◌, ◌/◌, min, Bool, not, cond, ◌||◌, List, length, ltb, leb, eqb, Result, Ok, Err}
 use Rattle.verdict.specs.Verdict.{rule, ◌then◌}
+use Rattle.verdict.specs.Refusals.{number_of}
 use Rattle.verdict.specs.declared.Answer.{Answer}
+use Rattle.verdict.specs.declared.Refused.{Refused}
 use Rattle.wire.specs.Bytes.{put}
 use Rattle.record.specs.declared.Rec.{Rec}
 use Rattle.record.specs.Record.{size, made, flip, record_bytes}
@@ -32,6 +34,11 @@ left answer floor journal = record { answer = answer; floor = floor; journal = j
 
 abbrev pub session : ℕ → ℕ → ℕ → Session
 session number place f = record { number = number; place = place; f = f }
+
+-- what a caller is told who handed in f: 0 at 0 and the records that are kept then, or the refusal's number, its place, and f
+abbrev pub session_of : Result ℕ Refused → ℕ → Session
+session_of (Ok n) f = session 0 0 n
+session_of (Err r) f = session (number_of r.refusal) r.place f
 
 -- what the next call is lent
 abbrev pub next : Outcome → State

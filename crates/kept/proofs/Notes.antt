@@ -233,9 +233,6 @@ module _ (p q : Parts) where
   first_inside : (h : ℕ) → border q h ≡ false → note_by p q 0 h ≡ partner q h
   first_inside h y = note_inside p q 0 h y ∙ omega (arith, first_led h)
 
-  pub clear_start : (v : List ℕ) → Clearing p q v v 0
-  clear_start v = record { long = refl; map = refl; below = refl; done = λ g l. absurd (omega arith); left = λ g l. refl }
-
   pub clear_done : (v w : List ℕ) (h : ℕ) → Clearing p q v w h → halves q ≤ h → Noted p q 0 w
   clear_done v w h c l = record { at = λ g b. c.done g (omega arith) }
 

@@ -24,16 +24,15 @@ fn clear_notes(bytes: &[u8], work: &mut [u8])
     ensures memory { SameTop work.new work.old × SameBelow work.new work.old }
 {
     let n = pairs::halves_of(bytes);
-    let mut h = 0;
-    while h < n {
+    for h in 0..n {
         if corners::LOOSE <= wire::u16_at(work, corners::MATES_AT + 2 * h) {
             wire::put_u16(work, corners::MATES_AT + 2 * h, corners::LOOSE);
         }
-        h += 1;
     }
 }
 
 // The code of one valid entry.
+#[tactic(auto, using(crate::proofs::Entries::code_of_none, crate::proofs::Entries::code_of_some))]
 fn code_of(t: u32) -> usize
     requires { (t ≤ 63) ⊎ (t ≡ none32) }
     ensures { (result ≡ code_of t) × (result ≤ 65) }
@@ -45,6 +44,7 @@ fn code_of(t: u32) -> usize
 }
 
 // The mark of a note with one valid entry more.
+#[tactic(auto, using(crate::proofs::Notes::mark_led, crate::proofs::Notes::mark_kept))]
 fn mark_of(x: usize, t: u32) -> usize
     ensures { (result ≡ mark_of x t) × (result ≤ 1) }
 {
@@ -55,6 +55,7 @@ fn mark_of(x: usize, t: u32) -> usize
 }
 
 // A note with one valid entry more.
+#[tactic(auto, using(crate::proofs::Notes::noted_inside, crate::proofs::Notes::noted_first, crate::proofs::Notes::noted_again))]
 fn noted_more(x: usize, t: u32) -> usize
     requires { (x < 65536) × ((t ≤ 63) ⊎ (t ≡ none32)) }
     ensures { (result ≡ noted x t) × (result < 65536) }
@@ -72,6 +73,7 @@ fn noted_more(x: usize, t: u32) -> usize
 }
 
 // Whether edge entry i is valid.
+#[tactic(auto, using(crate::proofs::Entries::valid_read, crate::proofs::Entries::invalid_read))]
 fn is_valid(bytes: &[u8], i: usize) -> bool
     requires { RightHeader bytes.now × (i < (parts_of bytes.now).edges) }
     ensures { result ≡ valid_entry (parts_of bytes.now) i }
@@ -107,10 +109,8 @@ pub fn note_entries(bytes: &[u8], work: &mut [u8])
 {
     clear_notes(bytes, work);
     let n = border::edges_of(bytes);
-    let mut i = 0;
-    while i < n {
+    for i in 0..n {
         note_entry(bytes, work, i);
-        i += 1;
     }
 }
 

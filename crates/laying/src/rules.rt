@@ -58,8 +58,7 @@ pub fn transition_word(t: i32) -> u32
 pub(crate) fn is_on_grid(bits: u32) -> bool
     ensures { result ≡ on_grid (of_bits binary32 bits) }
 {
-    let z = grid::size_of(bits);
-    z.on
+    grid::size_of(bits).is_some()
 }
 
 // What 27 asks of the bytes to be written.

@@ -15,10 +15,15 @@ use Rattle.letters.specs.Class.{is_end}
 use Rattle.text.specs.Scan.{run, apart, words, line_at}
 use Rattle.text.specs.Sound.{rules31to32}
 use Rattle.layout.specs.declared.Progress.{Progress}
-use Rattle.layout.specs.declared.Layout.{Layout}
+use Rattle.std.specs.declared.result.Result.{Result}
+use Rattle.std.specs.declared.result.Result.TheVariants.{Ok, Err}
+use Rattle.verdict.specs.declared.Refused.{Refused}
+use Rattle.verdict.specs.Refusals.{number_of, verdict_of}
+use Rattle.verdict.proofs.Results.{number_positive}
 use Rattle.layout.specs.Grammar.{nothing, fault}
+use Rattle.layout.specs.declared.Layout.{Layout}
 use Rattle.layout.specs.Layout.{grammar, layout_verdict, layout_of}
-use Rattle.layout.specs.Starts.{entry_at, track_starts, obstacle_starts, hook_starts, state_of, moved_to, kept, no_starts, begun, starts_of, no_layout, layout_read, Held, Found, Answered}
+use Rattle.layout.specs.Starts.{entry_at, track_starts, obstacle_starts, hook_starts, state_of, moved_to, kept, no_starts, begun, starts_of, no_layout, layout_read, Told, told, told_layout, Held, Found, Answered}
 use Rattle.layout.proofs.HeldLaws.{held_long}
 use Rattle.layout.proofs.ReadLaws.{verdict_unsound, verdict_sound, layout_sound, layout_refused}
 use Rattle.layout.proofs.ScanLaws.{held_nothing, Reader, reader, turn_stops, turn_more, ends_early, ends_right}
@@ -36,7 +41,7 @@ module _ (s : List ℕ) (a : Answer) (e : a ≡ rules31to32 s) (n : a.number ≡
   no_entries : layout_of s ≡ nothing
   no_entries = layout_refused s (λ h. n (sym (ap (λ (b : Answer). b.number) unsound) ∙ h))
 
-  pub refused_read : (r : Layout) → r ≡ no_layout a.number a.place → r ≡ layout_read s
+  refused_read : (r : Told) → r ≡ no_layout a.number a.place → r ≡ layout_read s
   unfolding no_layout layout_read
   refused_read r q = q ∙ rw (no_entries, unsound, ne_eqb a.number 0 n)
 
@@ -44,9 +49,13 @@ module _ (s : List ℕ) (a : Answer) (e : a ≡ rules31to32 s) (n : a.number ≡
   unfolding no_layout
   refused_answered = record { verdict = sym unsound; held = rw no_entries (held_nothing s a.number a.place); sized = none_long a.number a.place }
 
+-- what the code tells of such a text
+pub refusal_read : (s : List ℕ) (r : Refused) → refused (number_of r.refusal) r.place ≡ rules31to32 s → told (Err r) ≡ layout_read s
+refusal_read s r e = refused_read s (refused (number_of r.refusal) r.place) e (λ z. absurd (omega (arith, number_positive r.refusal, z))) _ refl
+
 -- ---- a text that they accept, by what was found in its lines
 
-module _ (s : List ℕ) (z : (rules31to32 s).number ≡ 0) (r : Layout) (f : Found s r (grammar s)) where
+module _ (s : List ℕ) (z : (rules31to32 s).number ≡ 0) (r : Told) (f : Found s r (grammar s)) where
   found_verdict : refused r.number r.place ≡ layout_verdict s
   found_verdict = f.verdict ∙ sym (verdict_sound s z)
 
@@ -56,9 +65,9 @@ module _ (s : List ℕ) (z : (rules31to32 s).number ≡ 0) (r : Layout) (f : Fou
   found_starts : r.starts ≡ cond (eqb (layout_verdict s).number 0) (starts_of s) no_starts
   found_starts = rw (verdict_sound s z) f.starts
 
-  pub found_read : length r.starts ≡ 256 → r ≡ layout_read s
+  sized_read : length r.starts ≡ 256 → r ≡ layout_read s
   unfolding layout_read
-  found_read sized =
+  sized_read sized =
       let h = found_held in
       rw (
         ← h.rooms,
@@ -76,7 +85,7 @@ module _ (s : List ℕ) (z : (rules31to32 s).number ≡ 0) (r : Layout) (f : Fou
 -- ---- the definition's own answer, line by line as the code goes
 
 record Reads (s : List ℕ) : Type 0 where
-  it : Layout
+  it : Told
   sized : length it.starts ≡ 256
   found : Found s it (grammar s)
 
@@ -96,11 +105,23 @@ reads (suc k) s starts c n at l inv =
     (λ z. record { it = no_layout f (n + 1); sized = none_long f (n + 1); found = turn_stops s starts c n at f inv h refl _ z refl }))
     (λ h. ended s starts c n at inv (omega arith))
 
+-- what was found is the answer
+pub found_read : (s : List ℕ) → (rules31to32 s).number ≡ 0 → (r : Told) → Found s r (grammar s) → r ≡ layout_read s
+found_read s z r f =
+    let w = reads (length s) s no_starts begun 0 0 (omega arith) (reader s) in
+    sized_read s z r f (ap length (f.starts ∙ sym w.found.starts) ∙ w.sized)
+
 -- the law: of the answer, what callers go by
-pub answered : (s : List ℕ) (r : Layout) → r ≡ layout_read s → Answered s r
+pub answered : (s : List ℕ) (r : Told) → r ≡ layout_read s → Answered s r
 answered s r q =
     decided (ℕ_discrete (rules31to32 s).number 0)
     (λ z.
     let w = reads (length s) s no_starts begun 0 0 (omega arith) (reader s) in
-    rw (q ∙ sym (found_read s z w.it w.found w.sized)) (record { verdict = found_verdict s z w.it w.found; held = found_held s z w.it w.found; sized = w.sized }))
+    rw (q ∙ sym (sized_read s z w.it w.found w.sized)) (record { verdict = found_verdict s z w.it w.found; held = found_held s z w.it w.found; sized = w.sized }))
     (λ z. rw (q ∙ sym (refused_read s (rules31to32 s) refl z _ refl)) (refused_answered s (rules31to32 s) refl z))
+
+-- and its verdict
+pub verdict_told : (s : List ℕ) (v : Result Layout Refused) → told v ≡ layout_read s → verdict_of v ≡ layout_verdict s
+unfolding no_layout
+verdict_told s (Ok r) e = (answered s (told_layout r) e).verdict
+verdict_told s (Err r) e = (answered s (told (Err r)) e).verdict

@@ -8,9 +8,9 @@ use lib.Dec.{eqb}
 use lib.ListN.{length, get_or, take, drop, set, length-map, length-drop}
 use lib.Seq.{length-take-le, get_or-take, take_all}
 use borrow.Author.Tests.{eq-eqb, ne_eqb, lt-ltb, le-ltb}
-use Rattle.verdict.specs.Lowest.{lowest}
+use Rattle.verdict.specs.Lowest.{any_under}
 use Rattle.verdict.proofs.Lists.{map_at_lem}
-use Rattle.verdict.proofs.Lowest.{any_hit, any_none, any_same}
+use Rattle.verdict.proofs.Lowest.{any_same}
 use Rattle.text.specs.Scan.{words, line_at}
 use Rattle.names.specs.Name.{is_name, same_name}
 use Rattle.layout.specs.declared.Progress.{Progress}
@@ -73,22 +73,13 @@ named_by j but k w s starts l u r n el eu er = er ∙ rw (eu, el, ne_eqb j but n
 pub named_asked : (s starts l u : List ℕ) (j k : ℕ) → l ≡ line_at s (get_or starts j 0) → u ≡ nth (words l) k → is_name (nth (entry_at s (get_or starts j 0)) k) ≡ true → is_name u ≡ true
 named_asked s starts l u j k el eu h = rw (eu, el) h
 
--- entry m, if it is another than `but`, has the name
-abbrev pub another : ℕ → Word → List Word → ℕ → Bool
-another but w names m = not (eqb m but) && same_name w (get_or names m [])
-
-pub known_turn : (k : ℕ) (s starts w : List ℕ) (n but j : ℕ) (r t : Bool) → n ≤ length starts → j < n → r ≡ (not (eqb j but) && same_name w (nth (entry_at s (get_or starts j 0)) k)) → r ≡ t → another but w (words_at k (held s starts n)) j ≡ t
-known_turn k s starts w n but j r t h l er et = rw (word_name k s starts n j h l) (sym er ∙ et)
-
-pub known_hit : (k : ℕ) (s starts w : List ℕ) (n but j : ℕ) → n ≤ length starts → j < n → lowest j (another but w (words_at k (held s starts n))) ≡ j → another but w (words_at k (held s starts n)) j ≡ true → true ≡ known_but but w (words_at k (held s starts n))
+-- one of the kept entries, another than `but`, has the name
+pub known_held : (k : ℕ) (s starts w : List ℕ) (n but : ℕ) → n ≤ length starts
+    → any_under n (λ j. not (eqb j but) && same_name w (nth (entry_at s (get_or starts j 0)) k)) ≡ known_but but w (words_at k (held s starts n))
 unfolding known_but
-known_hit k s starts w n but j h l i t =
-    any_hit (another but w (words_at k (held s starts n))) j _ i t (omega (arith, words_long k (held s starts n), held_long s starts n h))
-
-pub known_none : (k : ℕ) (s starts w : List ℕ) (n but j : ℕ) → n ≤ length starts → n ≤ j → lowest j (another but w (words_at k (held s starts n))) ≡ j → false ≡ known_but but w (words_at k (held s starts n))
-unfolding known_but
-known_none k s starts w n but j h l i =
-    any_none (another but w (words_at k (held s starts n))) j _ i (omega (arith, words_long k (held s starts n), held_long s starts n h))
+known_held k s starts w n but h =
+    let e : length (words_at k (held s starts n)) ≡ n = words_long k (held s starts n) ∙ held_long s starts n h in
+    rw e (any_same n _ _ (λ j l. ap (λ (u : Word). not (eqb j but) && same_name w u) (sym (word_name k s starts n j h l))))
 
 -- none is left out where there are no more than 64
 pub known_all : (w : Word) (names : List Word) → length names ≤ 64 → known_but 64 w names ≡ known w names

@@ -1,16 +1,14 @@
 -- A line's words and faults, at the values that the code has in hand. Assumes nothing.
 use mathlib.Core.Path.{◌≡◌, refl, sym, ◌∙◌}
-use mathlib.Core.Bool.{Bool, true, false, cond, not, ◌&&◌}
-use mathlib.Core.List.{[]}
-use Prim.Native.Nat.{ℕ, suc, ◌+◌, ◌-◌, ◌≤◌, ◌<◌}
+use mathlib.Core.Bool.{Bool, true, false, cond, not}
+use mathlib.Core.List.{[], ◌∷◌}
+use Prim.Native.Nat.{ℕ, zero, suc, ◌+◌, ◌-◌, ◌≤◌, ◌<◌}
 use native.Mathlib.Omega.{arith}
 use lib.Dec.{eqb, ltb}
-use lib.ListN.{length, drop, drop_of_length-le}
-use lib.Seq.{drop-cons}
-use native.Mathlib.Numerals.{add-one}
+use lib.ListN.{length, drop, length-drop}
+use lib.Seq.{get_or-drop}
 use borrow.Author.Tests.{eqb-true, eq-eqb, ne_eqb, le-leb, lt-leb}
-use Rattle.verdict.proofs.Bools.{same_test}
-use Rattle.number.specs.declared.Num.{Num}
+use Rattle.verdict.proofs.Bools.{same_test, and_no}
 use Rattle.letters.specs.Class.{within}
 use Rattle.names.specs.Name.{same}
 use Rattle.number.specs.Count.{value, is_count}
@@ -142,30 +140,27 @@ module _ (k : ℕ) (l : Line) (n m : ℕ) (en : n ≡ words_of k) (em : m ≡ le
 
 -- ---- numbers
 
--- word k of a line was read as a number
-number_told : (l : Line) (k : ℕ) (u : Word) (x : Num) (t : Bool) → u ≡ nth l k → x ≡ number_of u → x.ok ≡ t → (number_of (nth l k)).ok ≡ t
-number_told l k u x t eu ex e = rw (← eu, ← ex) e
+-- each word is one, and one word is none
+numbers_each : (ws : Line) → ((i : ℕ) → i < length ws → (number_of (nth ws i)).ok ≡ true) → numbers ws ≡ true
+unfolding numbers
+numbers_each [] h = refl
+numbers_each (w ∷ ws) h = rw (h 0 (omega arith)) (numbers_each ws (λ i l. h (suc i) (omega arith)))
 
-numbers_cons : (l : Line) (i : ℕ) (t : Bool) → i < length l → (number_of (nth l i)).ok ≡ t → numbers (drop i l) ≡ cond t (numbers (drop (i + 1) l)) false
-numbers_cons l i t h e = rw (add-one i, drop-cons l i [] h) (unfold numbers in (rw e (go t)))
-  where
-    go : (q : Bool) → (q && numbers (drop (suc i) l)) ≡ cond q (numbers (drop (suc i) l)) false
-    go true = refl
-    go false = refl
+numbers_fail : (ws : Line) (i : ℕ) → i < length ws → (number_of (nth ws i)).ok ≡ false → numbers ws ≡ false
+unfolding numbers
+numbers_fail [] i l e = absurd (omega arith)
+numbers_fail (w ∷ ws) zero l e = rw e
+numbers_fail (w ∷ ws) (suc i) l e = rw (numbers_fail ws i (omega arith) e) (and_no (number_of w).ok)
 
-module _ (l : Line) (k i n : ℕ) (en : n ≡ length l) (inv : numbers (drop i l) ≡ numbers (drop k l)) where
-  module _ (h : i < n) (u : Word) (x : Num) (eu : u ≡ nth l i) (ex : x ≡ number_of u) where
-    pub numbers_more : x.ok ≡ true → numbers (drop (i + 1) l) ≡ numbers (drop k l)
-    numbers_more e = sym (numbers_cons l i true (omega arith) (number_told l i u x true eu ex e)) ∙ inv
+-- the words from k on
+module _ (l : Line) (k : ℕ) where
+  pub numbers_from : ((i : ℕ) → k ≤ i → i < length l → (number_of (nth l i)).ok ≡ true) → true ≡ numbers (drop k l)
+  numbers_from h = sym (numbers_each (drop k l) (λ i m. let q : k + i < length l = omega (arith, length-drop k l) in rw (get_or-drop k l i []) (h (k + i) (omega arith) q)))
 
-    pub numbers_not : x.ok ≡ false → false ≡ numbers (drop k l)
-    numbers_not e = sym (numbers_cons l i false (omega arith) (number_told l i u x false eu ex e)) ∙ inv
-
-  pub numbers_done : n ≤ i → true ≡ numbers (drop k l)
-  numbers_done h = all ∙ inv
-    where
-      all : true ≡ numbers (drop i l)
-      all = let z : length l ≤ i = omega arith in rw (drop_of_length-le l z) (unfold numbers in refl)
+  pub numbers_stop : (i : ℕ) → k ≤ i → i < length l → (number_of (nth l i)).ok ≡ false → false ≡ numbers (drop k l)
+  numbers_stop i m h e =
+      let z : k + (i - k) ≡ i = omega arith in
+      sym (numbers_fail (drop k l) (i - k) (omega (arith, length-drop k l)) (rw (get_or-drop k l (i - k) [], z) e))
 
 -- ---- how many words and names an entry has
 

@@ -13,10 +13,9 @@ use Rattle.text.specs.Scan.{run, apart, words, lines, line_at}
 use Rattle.text.proofs.SplitLaws.{line_step, line_none, line_long}
 use Rattle.text.proofs.ReadingLaws.{Standing, standing, stand_next, stand_stop, stand_end}
 use Rattle.layout.specs.declared.Progress.{Progress}
-use Rattle.layout.specs.declared.Layout.{Layout}
 use Rattle.layout.specs.Grammar.{nothing, State, start, Reading, stopped, fault, finish, layout_grammar}
 use Rattle.layout.specs.Layout.{grammar}
-use Rattle.layout.specs.Starts.{entry_at, held, Few, state_of, moved_to, slot_of, kept, starts_from, no_starts, begun, starts_of, no_layout, hook_starts, KeptSoFar, Held, Found}
+use Rattle.layout.specs.Starts.{entry_at, held, Few, state_of, moved_to, slot_of, kept, starts_from, no_starts, begun, starts_of, no_layout, hook_starts, KeptSoFar, Told, Held, Found}
 use Rattle.layout.proofs.GoodLaws.{Good, good_start, good_next}
 use Rattle.layout.proofs.HeldLaws.{kept_entries, kept_doors}
 use Rattle.layout.proofs.StepLaws.{step}
@@ -49,11 +48,11 @@ held_nothing s number place = record {
   few_hooks = omega arith;
 }
 
-found_stopped : (s : List ℕ) (r : Layout) (found : Reading) (f n : ℕ) → found ≡ stopped f n → (f ≡ 0 → ⊥) → r ≡ no_layout f n → Found s r found
+found_stopped : (s : List ℕ) (r : Told) (found : Reading) (f n : ℕ) → found ≡ stopped f n → (f ≡ 0 → ⊥) → r ≡ no_layout f n → Found s r found
 unfolding no_layout
 found_stopped s r found f n e z q = rw (e, q) (record { verdict = refl; held = held_nothing s f n; starts = rw (ne_eqb f 0 z) })
 
-found_right : (s : List ℕ) (starts : List ℕ) (c : Progress) (r : Layout) (found : Reading) → found ≡ record { verdict = accepted; typed = (state_of s starts c).typed } → starts_of s ≡ starts → Few c → r.number ≡ 0 → r.place ≡ 0 → r.rooms ≡ c.rooms → r.tracks ≡ c.tracks → r.obstacles ≡ c.obstacles → r.hooks ≡ c.hooks → r.starts ≡ starts → Found s r found
+found_right : (s : List ℕ) (starts : List ℕ) (c : Progress) (r : Told) (found : Reading) → found ≡ record { verdict = accepted; typed = (state_of s starts c).typed } → starts_of s ≡ starts → Few c → r.number ≡ 0 → r.place ≡ 0 → r.rooms ≡ c.rooms → r.tracks ≡ c.tracks → r.obstacles ≡ c.obstacles → r.hooks ≡ c.hooks → r.starts ≡ starts → Found s r found
 unfolding state_of
 found_right s starts c r found e k f n p x y z w q = rw e (record {
   starts = q ∙ sym k;
@@ -123,7 +122,7 @@ reader s = record {
 
 -- a turn of the reader, at the values that the code has in hand
 module _ (s starts : List ℕ) (c : Progress) (n at f : ℕ) (inv : Reader s starts c n at) (h : at < length s) (ef : f ≡ fault (state_of s starts c) (entry_at s at)) where
-  pub turn_stops : (r : Layout) → (f ≡ 0 → ⊥) → r ≡ no_layout f (n + 1) → Found s r (grammar s)
+  pub turn_stops : (r : Told) → (f ≡ 0 → ⊥) → r ≡ no_layout f (n + 1) → Found s r (grammar s)
   turn_stops r z q = found_stopped s r (grammar s) f (n + 1) (stand_stop inv.stands h (λ y. z (ef ∙ y)) ∙ rw (← ef)) z q
 
   pub turn_more : (more l : List ℕ) (d : Progress) (e : ℕ) → f ≡ 0 → more ≡ kept starts c at → l ≡ line_at s at → d ≡ moved_to c (words l) → e ≡ at + run (apart is_end) (drop at s) → Reader s more d (n + 1) (e + 1)
@@ -143,7 +142,7 @@ module _ (s starts : List ℕ) (c : Progress) (n at : ℕ) (inv : Reader s start
   over : grammar s ≡ finish (state_of s starts c) n
   over = stand_end inv.stands h
 
-  pub ends_early : (r : Layout) → (c.sect ≡ 6 → ⊥) → r ≡ no_layout 38 n → Found s r (grammar s)
+  pub ends_early : (r : Told) → (c.sect ≡ 6 → ⊥) → r ≡ no_layout 38 n → Found s r (grammar s)
   ends_early r z q = found_stopped s r (grammar s) 38 n (over ∙ finish_early (state_of s starts c) n (not_done s starts c z)) (λ y. omega arith) q
 
   pub ends_right : c.sect ≡ 6 → Found s (record { number = 0; place = 0; rooms = c.rooms; tracks = c.tracks; obstacles = c.obstacles; hooks = c.hooks; starts = starts }) (grammar s)

@@ -1,7 +1,9 @@
 -- What the code keeps of a layout: the places where its entries' lines start, rooms from 0 on, tracks from 64 on, obstacles from 128 on, hooks from 192 on.
 -- Names and numbers are read again from the text. Definitions only.
-use Rattle.std.specs.Prelude.{◌≡◌, ℕ, ◌+◌, ◌-◌, ◌≤◌, ◌<◌, true, cond, List, [], ◌∷◌, map, length, take, drop, set, get_or, replicate, ltb, eqb}
+use Rattle.std.specs.Prelude.{◌≡◌, ℕ, ◌+◌, ◌-◌, ◌≤◌, ◌<◌, true, cond, List, [], ◌∷◌, map, length, take, drop, set, get_or, replicate, ltb, eqb, Result, Ok, Err}
 use Rattle.verdict.specs.Verdict.{refused}
+use Rattle.verdict.specs.Refusals.{number_of}
+use Rattle.verdict.specs.declared.Refused.{Refused}
 use Rattle.text.specs.Scan.{words, lines, line_at}
 use Rattle.names.specs.Name.{is_name}
 use Rattle.number.specs.Count.{value, is_count}
@@ -115,12 +117,30 @@ starts_of s = starts_from no_starts begun 0 (lines s)
 
 -- ---- what is answered
 
+-- an answer of the reader: its verdict, how many entries of each kind there are, and their starts
+pub record Told : Type 0 where
+  pub number : ℕ
+  pub place : ℕ
+  pub rooms : ℕ
+  pub tracks : ℕ
+  pub obstacles : ℕ
+  pub hooks : ℕ
+  pub starts : List ℕ
+
 -- a refused layout: no entries
-unfoldable pub no_layout : ℕ → ℕ → Layout
+unfoldable pub no_layout : ℕ → ℕ → Told
 no_layout number place = record { number = number; place = place; rooms = 0; tracks = 0; obstacles = 0; hooks = 0; starts = no_starts }
 
+-- what the code tells: a layout that it read, or a refusal
+abbrev pub told_layout : Layout → Told
+told_layout r = record { number = 0; place = 0; rooms = r.rooms; tracks = r.tracks; obstacles = r.obstacles; hooks = r.hooks; starts = r.starts }
+
+abbrev pub told : Result Layout Refused → Told
+told (Ok r) = told_layout r
+told (Err r) = no_layout (number_of r.refusal) r.place
+
 -- the reader's answer: the verdict, how many entries of each kind there are, and their starts; none on refusal
-unfoldable pub layout_read : List ℕ → Layout
+unfoldable pub layout_read : List ℕ → Told
 layout_read s = record {
   number = (layout_verdict s).number;
   place = (layout_verdict s).place;
@@ -132,7 +152,7 @@ layout_read s = record {
 }
 
 -- the code's counts and starts are those of a layout's entries
-pub record Held (s : List ℕ) (r : Layout) (t : Typed) : Type 0 where
+pub record Held (s : List ℕ) (r : Told) (t : Typed) : Type 0 where
   pub rooms : held s r.starts r.rooms ≡ t.rooms
   pub tracks : held s (track_starts r.starts) r.tracks ≡ t.tracks
   pub obstacles : held s (obstacle_starts r.starts) r.obstacles ≡ t.obstacles
@@ -143,13 +163,13 @@ pub record Held (s : List ℕ) (r : Layout) (t : Typed) : Type 0 where
   pub few_hooks : r.hooks ≤ 64
 
 -- the code found what a reading says
-pub record Found (s : List ℕ) (r : Layout) (found : Reading) : Type 0 where
+pub record Found (s : List ℕ) (r : Told) (found : Reading) : Type 0 where
   pub verdict : refused r.number r.place ≡ found.verdict
   pub held : Held s r found.typed
   pub starts : r.starts ≡ cond (eqb found.verdict.number 0) (starts_of s) no_starts
 
 -- what the reader's callers go by: the layout's verdict, and that the entries are where the answer says
-pub record Answered (s : List ℕ) (r : Layout) : Type 0 where
+pub record Answered (s : List ℕ) (r : Told) : Type 0 where
   pub verdict : refused r.number r.place ≡ layout_verdict s
   pub held : Held s r (layout_of s)
   pub sized : length r.starts ≡ 256

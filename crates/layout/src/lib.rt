@@ -5,9 +5,10 @@ ghost use Rattle.std.specs.Prelude.{◌≡◌, true, ◌≤◌, length};
 ghost use Rattle.names.specs.Name.{is_name};
 ghost use Rattle.layout.specs.Grammar.{names_in, names_of, known_but};
 ghost use Rattle.layout.specs.Layout.{grammar};
-ghost use Rattle.layout.specs.Starts.{held, KeptEntries, no_layout, Found, layout_read};
+ghost use Rattle.layout.specs.Starts.{held, KeptEntries, told, Found, layout_read};
 
 use text::{line_at, line_end};
+use verdict::{Refusal, Refused};
 
 mod lines;
 
@@ -22,12 +23,10 @@ struct Progress {
     hooks: usize,
 }
 
-// A layout that was read: the verdict, how many entries of each kind there are, and where their lines start (rooms from 0 on, tracks from
-// 64 on, obstacles from 128 on, hooks from 192 on). No entries on refusal.
+// A layout that was read: how many entries of each kind there are, and where their lines start (rooms from 0 on, tracks from 64 on,
+// obstacles from 128 on, hooks from 192 on).
 #[derive(Clone, Copy)]
 pub struct Layout {
-    pub number: u32,
-    pub place: u32,
     pub rooms: usize,
     pub tracks: usize,
     pub obstacles: usize,
@@ -37,25 +36,10 @@ pub struct Layout {
 
 // ---- the reader
 
-// A refused layout: no entries.
-fn refused_layout(number: u32, place: u32) -> Layout
-    ensures { result ≡ no_layout number place }
-{
-    Layout {
-        number,
-        place,
-        rooms: 0,
-        tracks: 0,
-        obstacles: 0,
-        hooks: 0,
-        starts: [0usize; 256],
-    }
-}
-
 // The lines one after the other, of a text that rules 31 and 32 accept.
-fn read_lines(s: &[u8]) -> Layout
+fn read_lines(s: &[u8]) -> Result<Layout, Refused>
     requires { length s.now ≤ 65536 }
-    ensures { Found s.now result (grammar s.now) }
+    ensures { Found s.now (told result) (grammar s.now) }
 {
     let mut starts = [0usize; 256];
     let mut st = Progress {
@@ -68,44 +52,47 @@ fn read_lines(s: &[u8]) -> Layout
     };
     let mut at = 0;
     let mut passed: usize = 0;
+    // A walk by lines stays a `while`: an iterator over lines would be a struct of our own, no plainer than this.
     while at < s.len() {
-        let f = lines::line_fault(s, &starts, st, at);
+        let fault = lines::line_fault(s, &starts, st, at);
         passed += 1;
-        if f != 0 {
-            return refused_layout(f, passed as u32);
+        if let Err(refusal) = fault {
+            return Err(Refused {
+                refusal,
+                place: passed as u32,
+            });
         }
         lines::keep(&mut starts, st, at);
         st = lines::moved(st, line_at(s, at));
         at = line_end(s, at) + 1;
     }
     if st.sect != 6 {
-        return refused_layout(38, passed as u32);
+        return Err(Refused {
+            refusal: Refusal::TextEnds,
+            place: passed as u32,
+        });
     }
-    Layout {
-        number: 0,
-        place: 0,
+    Ok(Layout {
         rooms: st.rooms,
         tracks: st.tracks,
         obstacles: st.obstacles,
         hooks: st.hooks,
         starts,
-    }
+    })
 }
 
 // A layout: rules 31 to 38, and where the entries are.
-pub fn read(s: &[u8]) -> Layout
-    ensures { result ≡ layout_read s.now }
+pub fn read(s: &[u8]) -> Result<Layout, Refused>
+    ensures { told result ≡ layout_read s.now }
 {
-    let so = text::sound_verdict(s);
-    if so.number != 0 {
-        return refused_layout(so.number, so.place);
-    }
+    text::sound_verdict(s)?;
     read_lines(s)
 }
 
 // ---- what other crates ask of entries
 
 // How many names an entry of section k starts with.
+#[tactic(auto, using(crate::proofs::LineLaws::names_hook, crate::proofs::LineLaws::names_other))]
 pub fn names_in(k: usize) -> usize
     ensures { result ≡ names_in k }
 {
@@ -116,6 +103,7 @@ pub fn names_in(k: usize) -> usize
 }
 
 // One of the first n entries, another than `but`, has this name.
+#[tactic(auto, unfolding(crate::specs::Grammar::names_of))]
 pub fn is_known(s: &[u8], starts: &[usize], n: usize, but: usize, w: &[u8]) -> bool
     requires { KeptEntries s.now starts.now n × (is_name w.now ≡ true) }
     ensures { result ≡ known_but but w.now (names_of (held s.now starts.now n)) }

@@ -2,13 +2,14 @@
 ghost use Rattle.std.specs.Prelude.{◌≡◌, true, cond, not, ◌&&◌, ◌+◌, ◌-◌, ◌<◌, ◌≤◌, length, get_or, drop, eqb};
 ghost use Rattle.text.specs.Scan.{words};
 ghost use Rattle.names.specs.Name.{is_name, same_name};
-ghost use Rattle.text.specs.Reading.{nth};
+ghost use Rattle.text.specs.Reading.{fault_of, nth};
 ghost use Rattle.layout.specs.Grammar.{section_of, follows, opens, words_at, known_but, entry_long, numbers, door_fault, hook_fault, name_fault, entry_fault, words_of, open_fault, fault};
 ghost use Rattle.layout.specs.Starts.{entry_at, held, Few, KeptSoFar, KeptWords, state_of, count_in, entered, moved_to, slot_of, kept};
 
 use super::{Progress, names_in};
 use names::is_name;
 use text::{line_at, word, word_count};
+use verdict::Refusal;
 
 // The section that a keyword opens, 0 for no keyword.
 pub(crate) fn section_of(w: &[u8]) -> usize
@@ -76,23 +77,23 @@ pub(crate) fn words_of(k: usize) -> usize
 }
 
 // What is wrong with a line that is to open section k.
-pub(crate) fn open_fault(k: usize, l: &[u8]) -> u32
-    ensures { result ≡ open_fault k (words l.now) }
+pub(crate) fn open_fault(k: usize, l: &[u8]) -> Result<(), Refusal>
+    ensures { fault_of result ≡ open_fault k (words l.now) }
 {
     if k == 0 {
-        return 33;
+        return Err(Refusal::TextLine);
     }
     let n = words_of(k);
     if word_count(l) != n {
-        return 33;
+        return Err(Refusal::TextLine);
     }
     if n == 1 {
-        return 0;
+        return Ok(());
     }
     if number::is_count(word(l, 1)) {
-        return 0;
+        return Ok(());
     }
-    36
+    Err(Refusal::TextCount)
 }
 
 // What a count says, 0 where it is none.
@@ -121,14 +122,7 @@ pub(crate) fn is_among(s: &[u8], starts: &[usize], n: usize, but: usize, k: usiz
     requires { KeptWords k s.now starts.now n × (is_name w.now ≡ true) }
     ensures { result ≡ known_but but w.now (words_at k (held s.now starts.now n)) }
 {
-    let mut j = 0;
-    while j < n {
-        if is_named(s, starts, j, but, k, w) {
-            return true;
-        }
-        j += 1;
-    }
-    false
+    (0..n).any(|j| is_named(s, starts, j, but, k, w))
 }
 
 // The words of a line of n words are numbers from k on.
@@ -136,15 +130,7 @@ pub(crate) fn are_numbers(l: &[u8], n: usize, k: usize) -> bool
     requires { n ≡ length (words l.now) }
     ensures { result ≡ numbers (drop k (words l.now)) }
 {
-    let mut i = k;
-    while i < n {
-        if number::number(word(l, i)).ok {
-            i += 1;
-        } else {
-            return false;
-        }
-    }
-    true
+    (k..n).all(|i| number::number(word(l, i)).ok)
 }
 
 // An entry of section k may have n words.
@@ -161,77 +147,71 @@ pub(crate) fn is_entry_long(k: usize, n: usize) -> bool
 }
 
 // What is wrong with a door, by the n hooks before it.
-pub(crate) fn door_fault(s: &[u8], starts: &[usize], n: usize, w: &[u8]) -> u32
+pub(crate) fn door_fault(s: &[u8], starts: &[usize], n: usize, w: &[u8]) -> Result<(), Refusal>
     requires { KeptWords 1 s.now starts.now n }
-    ensures { result ≡ door_fault (held s.now starts.now n) w.now }
+    ensures { fault_of result ≡ door_fault (held s.now starts.now n) w.now }
 {
-    if is_name(w) {
-        if is_among(s, starts, n, 64, 1, w) {
-            return 37;
-        }
-        return 0;
+    if !is_name(w) {
+        return Err(Refusal::Name);
     }
-    34
+    if is_among(s, starts, n, 64, 1, w) {
+        return Err(Refusal::NameTwice);
+    }
+    Ok(())
 }
 
 // What is wrong with a hook's room, which is a name, and with its door.
-pub(crate) fn hook_fault(s: &[u8], starts: &[usize], st: Progress, l: &[u8]) -> u32
+pub(crate) fn hook_fault(s: &[u8], starts: &[usize], st: Progress, l: &[u8]) -> Result<(), Refusal>
     requires { KeptSoFar s.now starts.now st × (is_name (nth (words l.now) 0) ≡ true) }
-    ensures { result ≡ hook_fault (state_of s.now starts.now st).typed (words l.now) }
+    ensures { fault_of result ≡ hook_fault (state_of s.now starts.now st).typed (words l.now) }
 {
-    if is_among(s, starts, st.rooms, 64, 0, word(l, 0)) {
-        return door_fault(s, &starts[192..], st.hooks, word(l, 1));
+    if !is_among(s, starts, st.rooms, 64, 0, word(l, 0)) {
+        return Err(Refusal::UnknownRoom);
     }
-    39
+    door_fault(s, &starts[192..], st.hooks, word(l, 1))
 }
 
 // What is wrong with the names of an entry.
-pub(crate) fn name_fault(s: &[u8], starts: &[usize], st: Progress, l: &[u8]) -> u32
+pub(crate) fn name_fault(s: &[u8], starts: &[usize], st: Progress, l: &[u8]) -> Result<(), Refusal>
     requires { KeptSoFar s.now starts.now st }
-    ensures { result ≡ name_fault (state_of s.now starts.now st) (words l.now) }
+    ensures { fault_of result ≡ name_fault (state_of s.now starts.now st) (words l.now) }
 {
-    if is_name(word(l, 0)) {
-        if st.sect == 5 {
-            return hook_fault(s, starts, st, l);
-        }
-        return 0;
+    if !is_name(word(l, 0)) {
+        return Err(Refusal::Name);
     }
-    34
+    if st.sect == 5 {
+        return hook_fault(s, starts, st, l);
+    }
+    Ok(())
 }
 
 // What is wrong with an entry. Of names, only rooms are checked for 37.
-pub(crate) fn entry_fault(s: &[u8], starts: &[usize], st: Progress, l: &[u8]) -> u32
+pub(crate) fn entry_fault(s: &[u8], starts: &[usize], st: Progress, l: &[u8]) -> Result<(), Refusal>
     requires { KeptSoFar s.now starts.now st }
-    ensures { result ≡ entry_fault (state_of s.now starts.now st) (words l.now) }
+    ensures { fault_of result ≡ entry_fault (state_of s.now starts.now st) (words l.now) }
 {
     let n = word_count(l);
-    if is_entry_long(st.sect, n) {
-        let f = name_fault(s, starts, st, l);
-        if f != 0 {
-            return f;
-        }
-        if are_numbers(l, n, names_in(st.sect)) {
-            if st.sect != 2 {
-                return 0;
-            }
-            if is_among(s, starts, st.rooms, 64, 0, word(l, 0)) {
-                return 37;
-            }
-            return 0;
-        }
-        return 35;
+    if !is_entry_long(st.sect, n) {
+        return Err(Refusal::TextLine);
     }
-    33
+    name_fault(s, starts, st, l)?;
+    if !are_numbers(l, n, names_in(st.sect)) {
+        return Err(Refusal::TextNumber);
+    }
+    if st.sect == 2 && is_among(s, starts, st.rooms, 64, 0, word(l, 0)) {
+        return Err(Refusal::NameTwice);
+    }
+    Ok(())
 }
 
 // What is wrong with the line that starts at a place; nothing if it is blank.
-pub(crate) fn line_fault(s: &[u8], starts: &[usize], st: Progress, at: usize) -> u32
+pub(crate) fn line_fault(s: &[u8], starts: &[usize], st: Progress, at: usize) -> Result<(), Refusal>
     requires { KeptSoFar s.now starts.now st }
-    ensures { result ≡ fault (state_of s.now starts.now st) (entry_at s.now at) }
+    ensures { fault_of result ≡ fault (state_of s.now starts.now st) (entry_at s.now at) }
 {
     let l = line_at(s, at);
     if word_count(l) == 0 {
-        return 0;
+        return Ok(());
     }
     if 0 < st.left {
         return entry_fault(s, starts, st, l);

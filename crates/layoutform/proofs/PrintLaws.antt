@@ -8,7 +8,7 @@ use native.Mathlib.Numerals.{add-one}
 use native.Mathlib.Omega.{arith}
 use native.Mathlib.Decide.{ℕ_discrete}
 use lib.ListN.{length, get_or, take, drop, length-map, length-drop}
-use lib.Seq.{take-suc, take_all, get_or-drop}
+use lib.Seq.{take-suc, take_all, get_or-drop, get_or-take, length-take-le}
 use Rattle.verdict.proofs.Bools.{test, decided}
 use Rattle.verdict.proofs.Lists.{map_at_lem}
 use Rattle.verdict.proofs.Each.{Each}
@@ -183,6 +183,15 @@ module _ (k : ℕ) (old name : Word) (l : Line) (t : Bool) (u : Word) (eu : u �
   one_wrote w = rw one_is w
 
 -- ---- the entries of a section
+
+-- a start among the first n is one of all, and behind the last of them n are passed
+pub kept_start : (s starts l : List ℕ) (n j : ℕ) → n ≤ length starts → j < length (take n starts) → l ≡ line_at s (get_or (take n starts) j 0) → (j < n) × (l ≡ line_at s (get_or starts j 0))
+kept_start s starts l n j h k e =
+    let m : j < n = omega (arith, length-take-le n starts h) in
+    (m, e ∙ ap (line_at s) (get_or-take n starts j 0 m))
+
+pub kept_all : (starts : List ℕ) (n j : ℕ) → n ≤ length starts → length (take n starts) ≤ j → n ≤ j
+kept_all starts n j h k = omega (arith, length-take-le n starts h)
 
 module _ (k : ℕ) (s starts : List ℕ) (n : ℕ) (old name : Word) (kept : KeptIn k s starts n) where
   -- what becomes of an entry, and the entries that are written

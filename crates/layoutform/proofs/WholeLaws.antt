@@ -17,12 +17,11 @@ use Rattle.printer.specs.Write.{Wrote}
 use Rattle.text.specs.Written.{spaced, after, written}
 use Rattle.text.proofs.WrittenLaws.{ended_one, written_append}
 use Rattle.printer.proofs.WriteLaws.{wrote_then, wrote_is}
-use Rattle.layout.specs.declared.Layout.{Layout}
 use Rattle.text.specs.Reading.{Word, Line, nth}
 use Rattle.layout.specs.Grammar.{names_of, beginlayout, roomcount, trackcount, obstaclecount, doorhookcount, donelayout}
 use Rattle.layout.specs.Layout.{layout_of}
 use Rattle.layout.specs.Plain.{IsEntry}
-use Rattle.layout.specs.Starts.{entry_at, held, kept_name, track_starts, obstacle_starts, hook_starts, Held}
+use Rattle.layout.specs.Starts.{entry_at, held, kept_name, track_starts, obstacle_starts, hook_starts, Told, Held}
 use Rattle.layout.proofs.ApartLaws.{length_names}
 use Rattle.layout.proofs.ReadLaws.{layout_good}
 use Rattle.layout.proofs.HeldLaws.{held_long, entry_at_lem, room_name_lem}
@@ -47,7 +46,7 @@ key_end key h w = omega (arith, w.next, ended_one (spaced (key ∷ [])), key_lon
 
 -- ---- the whole, by what the reader keeps
 
-module _ (s : List ℕ) (r : Layout) (sized : length r.starts ≡ 256) (h : Held s r (layout_of s)) where
+module _ (s : List ℕ) (r : Told) (sized : length r.starts ≡ 256) (h : Held s r (layout_of s)) where
   -- the starts of a section's entries as the code has them: those from a place on, to the last
   pub part_is : (at n : ℕ) → at + n ≡ 256 → take n (drop at r.starts) ≡ drop at r.starts
   part_is at n e = take_all n (drop at r.starts) (omega (arith, length-drop at r.starts))

@@ -1,6 +1,7 @@
 // The fixed form of a layout, printed: entries, sections, and rule 40.
 ghost use Rattle.std.specs.Prelude.{◌≡◌, true, [], ◌∷◌, map, ◌+◌, ◌*◌, ◌^◌, ◌<◌, ◌≤◌, length, take, drop};
 ghost use Rattle.verdict.specs.Output.{form_answer, form_memory};
+ghost use Rattle.verdict.specs.Refusals.{told_form};
 ghost use Rattle.text.specs.Scan.{words};
 ghost use Rattle.letters.specs.Case.{lowered};
 ghost use Rattle.number.specs.Number.{number_of, printed, plain};
@@ -10,14 +11,14 @@ ghost use Rattle.names.specs.Name.{is_name, same_name};
 ghost use Rattle.text.specs.Reading.{nth};
 ghost use Rattle.layout.specs.Grammar.{names_in};
 ghost use Rattle.layout.specs.Layout.{layout_of};
-ghost use Rattle.layout.specs.Starts.{held, Held};
+ghost use Rattle.layout.specs.Starts.{held, Held, told_layout};
 ghost use Rattle.layoutform.specs.Form.{entry_named, entry_of, entry_line, section, longest_line, longest_form};
 ghost use Rattle.layoutform.specs.Rewrite.{renamed_from, renamed_form};
 ghost use Rattle.layoutform.specs.Lent.{AnEntry, KeptIn, NameOrNone};
 
 use layout::Layout;
 use text::{line_at, word, word_count};
-use verdict::{Form, refused_form};
+use verdict::{Refusal, Refused};
 
 // A space, and word k of a line as a number.
 pub(crate) fn put_spaced(out: &mut [u8], at: usize, l: &[u8], k: usize) -> usize
@@ -34,12 +35,9 @@ pub(crate) fn put_numbers(out: &mut [u8], at: usize, l: &[u8], k: usize) -> usiz
     requires { (at < 2 ^ 28) × (length (words l.now) ≤ 14) }
     ensures { Wrote out.old out.new at result (after (map printed (map number_of (drop k (words l.now))))) }
 {
-    let n = word_count(l);
     let mut e = at;
-    let mut i = k;
-    while i < n {
+    for i in k..word_count(l) {
         e = put_spaced(out, e, l, i);
-        i += 1;
     }
     e
 }
@@ -113,11 +111,8 @@ pub(crate) fn put_entries(
     ensures end { result ≤ at + longest_line 5 * n }
 {
     let mut e = at;
-    let mut j = 0;
-    while j < n {
-        let l = line_at(s, starts[j]);
-        e = put_one(out, e, k, l, old, name);
-        j += 1;
+    for start in &starts[..n] {
+        e = put_one(out, e, k, line_at(s, *start), old, name);
     }
     e
 }
@@ -165,7 +160,7 @@ pub(crate) fn put_section(
 
 // The fixed form, room i with another name, there and in its hooks.
 pub(crate) fn put_form(out: &mut [u8], s: &[u8], r: Layout, i: usize, name: &[u8]) -> usize
-    requires { Held s.now r (layout_of s.now) × (length name.now ≤ 16) }
+    requires { Held s.now (told_layout r) (layout_of s.now) × (length name.now ≤ 16) }
     ensures { Wrote out.old out.new 0 result (renamed_form s.now i name.now) }
 {
     let rooms = r.rooms;
@@ -204,20 +199,25 @@ pub(crate) fn put_form(out: &mut [u8], s: &[u8], r: Layout, i: usize, name: &[u8
 }
 
 // Rule 40, and the form where it fits. A dry run tells its length.
-pub(crate) fn write_form(out: &mut [u8], s: &[u8], r: Layout, i: usize, name: &[u8]) -> Form
-    requires held { Held s.now r (layout_of s.now) × (length name.now ≤ 16) }
+pub(crate) fn write_form(
+    out: &mut [u8],
+    s: &[u8],
+    r: Layout,
+    i: usize,
+    name: &[u8],
+) -> Result<u32, Refused>
+    requires held { Held s.now (told_layout r) (layout_of s.now) × (length name.now ≤ 16) }
     requires short { length (renamed_form s.now i name.now) ≤ longest_form }
-    ensures answer { result ≡ form_answer (rule40 (renamed_form s.now i name.now) (length out.old)) (renamed_form s.now i name.now) }
+    ensures answer { told_form result ≡ form_answer (rule40 (renamed_form s.now i name.now) (length out.old)) (renamed_form s.now i name.now) }
     ensures memory { out.new ≡ form_memory (rule40 (renamed_form s.now i name.now) (length out.old)) (renamed_form s.now i name.now) out.old }
 {
     let n = put_form(&mut out[..0], s, r, i, name);
     if out.len() < n {
-        return refused_form(40, 0);
+        return Err(Refused {
+            refusal: Refusal::OutputShort,
+            place: 0,
+        });
     }
     let m = put_form(out, s, r, i, name);
-    Form {
-        number: 0,
-        place: 0,
-        length: m as u32,
-    }
+    Ok(m as u32)
 }

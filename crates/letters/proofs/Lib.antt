@@ -1,3 +1,2 @@
 pub mod ClassLaws
 pub mod CaseLaws
-pub mod Tests

@@ -33,53 +33,43 @@ pub fn class_of(b: u8) -> u8
 pub fn is_within(low: usize, high: usize, k: usize) -> bool
     ensures { result ≡ within low high k }
 {
-    if low <= k {
-        return k <= high;
-    }
-    false
+    low <= k && k <= high
 }
 
+#[tactic(auto, unfolding(crate::specs::Class::is_digit))]
 pub fn is_digit(b: u8) -> bool
     ensures { result ≡ is_digit b }
 {
     class_of(b) == 2
 }
 
+#[tactic(auto, unfolding(crate::specs::Class::is_gap))]
 pub fn is_gap(b: u8) -> bool
     ensures { result ≡ is_gap b }
 {
     let k = class_of(b);
-    if k == 6 {
-        return true;
-    }
-    k == 8
+    k == 6 || k == 8
 }
 
+#[tactic(auto, unfolding(crate::specs::Class::is_end))]
 pub fn is_end(b: u8) -> bool
     ensures { result ≡ is_end b }
 {
     class_of(b) == 7
 }
 
+#[tactic(auto, unfolding(crate::specs::Class::name_byte))]
 pub fn is_name_byte(b: u8) -> bool
     ensures { result ≡ name_byte b }
 {
     let k = class_of(b);
-    if k < 1 {
-        return false;
-    }
-    k <= 3
+    1 <= k && k <= 3
 }
 
 // A byte in lower case.
+#[tactic(auto, unfolding(crate::specs::Case::lower))]
 pub fn low(b: u8) -> u8
     ensures { result ≡ lower b }
 {
-    if b < 65 {
-        return b;
-    }
-    if 90 < b {
-        return b;
-    }
-    b + 32
+    if 65 <= b && b <= 90 { b + 32 } else { b }
 }

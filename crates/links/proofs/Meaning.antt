@@ -8,6 +8,10 @@ use lib.ListN.{length}
 use lib.Dec.{leb, eqb}
 use borrow.Author.Tests.{eq-eqb, ne_eqb, eqb-true, leb-false, lt-leb}
 use Rattle.verdict.specs.Verdict.{◌then◌, accepted}
+use Rattle.std.specs.declared.result.Result.TheVariants.{Ok, Err}
+use Rattle.verdict.specs.Verdict.{refused, accepted}
+use Rattle.verdict.specs.Refusals.{number_of}
+use Rattle.verdict.specs.declared.Refused.{Refused}
 use Rattle.verdict.specs.declared.Answer.{Answer}
 use Rattle.verdict.proofs.Bools.{test}
 use Rattle.verdict.proofs.Verdict.{then_assoc, passed, then_both, each_met, each_passes}
@@ -15,8 +19,7 @@ use Rattle.tables.specs.Parts.{none32, Parts, parts_of, transition}
 use Rattle.floor.specs.Reader.{reader_verdict}
 use Rattle.floor.proofs.Meaning.{accepted_sound, sound_accepted, room_is_enough}
 use Rattle.layout.specs.Layout.{layout_verdict}
-use Rattle.rooms.specs.Rooms.{room_names, rooms_of}
-use Rattle.rooms.specs.declared.Rooms.{Rooms}
+use Rattle.rooms.specs.Rooms.{Rooms, told_rooms, room_names, rooms_of}
 use Rattle.layout.proofs.ReadLaws.{verdict_proper}
 use Rattle.links.specs.Links.{astray, rule42, link_verdict}
 use Rattle.links.specs.Plain.{Joined}
@@ -46,13 +49,13 @@ module _ (p : Parts) (rooms i : ℕ) where
 
 -- ---- what the layout's own call answers
 
-pub text_verdict : (text : List ℕ) (r : Rooms) → r ≡ rooms_of text → ◌≡◌ {A = Answer} (record { number = r.number; place = r.place }) (layout_verdict text)
+pub text_met : (text : List ℕ) (n : ℕ) → told_rooms (Ok n) ≡ rooms_of text → (accepted ≡ layout_verdict text) × (n ≡ length (room_names text))
 unfolding rooms_of
-text_verdict text r e = ap (λ (q : Rooms). record { number = q.number; place = q.place }) e
+text_met text n e = (ap (λ (q : Rooms). record { number = q.number; place = q.place }) e, ap (λ (q : Rooms). q.rooms) e)
 
-pub text_rooms : (text : List ℕ) (r : Rooms) → r ≡ rooms_of text → r.rooms ≡ length (room_names text)
+pub text_refused : (text : List ℕ) (r : Refused) → told_rooms (Err r) ≡ rooms_of text → refused (number_of r.refusal) r.place ≡ layout_verdict text
 unfolding rooms_of
-text_rooms text r e = ap (λ (q : Rooms). q.rooms) e
+text_refused text r e = ap (λ (q : Rooms). record { number = q.number; place = q.place }) e
 
 -- ---- the check
 

@@ -16,7 +16,7 @@ use Rattle.chains.proofs.Chains.{drop_last, chained_none, chained_as, chained_as
 use Rattle.tables.specs.Parts.{Parts}
 use Rattle.mesh.specs.Mesh.{Finite}
 use Rattle.corners.specs.Corners.{lowest_same}
-use Rattle.corners.specs.Memory.{map_at, top, SameTop, Mapped}
+use Rattle.corners.specs.Memory.{map_at, top, SameTop}
 use Rattle.corners.proofs.Corners.{top_at, lowest_le}
 use Rattle.mates.specs.Keys.{point_chains, point_key}
 use Rattle.mates.specs.Steps.{MappedTo}
@@ -28,9 +28,6 @@ past_cleared w y l e = rw e (drop_cleared work_size (2 * point_chains) w (omega 
 module _ (p : Parts) where
   pub mapped_none : (w y : List ℕ) → y ≡ cleared_to (2 * point_chains) w → MappedTo p y 0
   mapped_none w y e = rw e (record { chained = chained_none (point_key p) point_chains w; at = λ v l. absurd (omega arith) })
-
-  pub mapped_all : (w : List ℕ) (s : ℕ) → p.vertices ≤ s → MappedTo p w s → Mapped p (top w)
-  mapped_all w s l m = record { at = λ v b. m.at v (omega arith) }
 
   -- vertex v mapped to m, then put last in chain k
   module _ (w y : List ℕ) (v m k : ℕ) (few : v < 4096) (long : work_size ≤ length w) (e : m ≡ lowest_same p v) (small : k < point_chains)

@@ -1,17 +1,20 @@
 -- What is kept of half-edges: by what the search for the opposite way found, of none, of one more, and of all. Assumes nothing.
-use Prim.Native.Nat.{ℕ, ◌+◌, ◌-◌, ◌<◌, ◌≤◌}
+use Prim.Native.Nat.{ℕ, ◌+◌, ◌<◌, ◌≤◌}
 use native.Mathlib.Omega.{arith}
 use native.Mathlib.Decide.{ℕ_discrete}
-use mathlib.Core.Path.{◌≡◌, sym, subst}
+use mathlib.Core.Path.{◌≡◌, refl, sym, subst}
+use mathlib.Core.Bool.{true}
 use mathlib.Core.Logic.{inl}
 use mathlib.Core.List.{List}
 use lib.ListN.{length}
+use Rattle.std.specs.Prelude.{Option, Some, None, unwrap_or}
 use Rattle.verdict.specs.Memory.{work_size}
 use Rattle.verdict.proofs.Bools.{clash, decided}
 use Rattle.wire.specs.Bytes.{u16_at, put_u16}
 use Rattle.wire.proofs.Short.{u16_here, u16_other, drop_put_u16}
-use Rattle.chains.specs.Chains.{Chained, Found}
+use Rattle.chains.specs.Chains.{one_more, Chained, Found}
 use Rattle.chains.proofs.Chains.{chained_aside}
+use Rattle.chains.proofs.Walk.{at_some}
 use Rattle.tables.specs.Parts.{Parts}
 use Rattle.pairs.specs.Halves.{halves, from, to, runs}
 use Rattle.pairs.specs.Plain.{Opposite, Apart}
@@ -25,32 +28,27 @@ pub opposite_found : (q : Parts) (h a b n g : ℕ) → a ≡ from q h → b ≡ 
     → Found (runs q (to q h) (from q h)) (halves q) g
 opposite_found q h a b n g e f m i = rw (e, f, m) at i
 
-module _ (q : Parts) (few : halves q ≤ 12288) (h g : ℕ) (b : h < halves q) (i : Found (runs q (to q h) (from q h)) (halves q) g) where
-  -- the one that runs the opposite way is the partner, for no other does
-  pub mate_found : Apart q → 0 < g → IsMate q h (g - 1)
-  mate_found apart m =
-      let r = runs_true q (to q h) (from q h) (g - 1) (i.holds m) in
-      let o : Opposite q (g - 1) h = record { there = r.0; back = r.1 } in
-      let l : g - 1 < halves q = omega (arith, i.within) in
+module _ (q : Parts) (few : halves q ≤ 12288) (h : ℕ) (b : h < halves q) where
+  -- the one that runs the opposite way is the partner, for no other does; where none does, it is a border
+  pub mate_kept : (o : Option ℕ) → Apart q → Found (runs q (to q h) (from q h)) (halves q) (one_more o) → IsMate q h (unwrap_or o loose)
+  mate_kept (Some g) apart i =
+      let s = at_some (Some g) g refl in
+      let r = runs_true q (to q h) (from q h) g (subst (λ (j : ℕ). runs q (to q h) (from q h) j ≡ true) s.1 (i.holds s.0)) in
+      let o : Opposite q g h = record { there = r.0; back = r.1 } in
+      let l : g < halves q = omega (arith, i.within) in
       record {
-        paired = λ e. sym (partner_only q apart (g - 1) h l o);
-        alone = λ e. absurd ((border_of q h e).alone.none (g - 1) l o);
-        small = omega arith;
+        paired = λ e. sym (partner_only q apart g h l o);
+        alone = λ e. absurd ((border_of q h e).alone.none g l o);
+        small = omega (arith, l, few);
       }
-
-  -- none does: it is a border
-  pub mate_none : g ≤ 0 → IsMate q h loose
-  mate_none m = record {
+  mate_kept None apart i = record {
     paired = λ e.
-        clash (border_to q h (record { inside = b; alone = record { none = λ k l o. clash (true_runs q (to q h) (from q h) k o.there o.back) (i.none m k l) } })) e;
+        clash (border_to q h (record { inside = b; alone = record { none = λ k l o. clash (true_runs q (to q h) (from q h) k o.there o.back) (i.none (omega arith) k l) } })) e;
     alone = λ e. omega arith;
     small = omega arith;
   }
 
 -- ---- in the memory
-
-pub mated_none : (q : Parts) (w : List ℕ) → MatedTo q w 0
-mated_none q w = record { at = λ h l. absurd (omega arith) }
 
 pub mated_all : (q : Parts) (w : List ℕ) (s : ℕ) → halves q ≤ s → MatedTo q w s → Mated q w
 mated_all q w s l m = record { partners = λ h b. (m.at h (omega arith)).paired; borders = λ h b. (m.at h (omega arith)).alone }

@@ -1,10 +1,11 @@
 -- Vertices by the words of their coordinates: equal coordinates have one word each, stand in one chain, and have one lowest vertex. Assumes nothing.
-use Prim.Native.Nat.{ℕ, ◌-◌, ◌<◌, ◌≤◌}
+use Prim.Native.Nat.{ℕ, ◌<◌}
 use native.Mathlib.Omega.{arith}
 use native.Mathlib.Decide.{dec_lt}
-use mathlib.Core.Path.{◌≡◌, sym, ◌∙◌}
+use mathlib.Core.Path.{◌≡◌, sym, ap, subst, ◌∙◌}
 use mathlib.Core.Bool.{true, false}
 use mathlib.Core.List.{List}
+use Rattle.std.specs.Prelude.{Option, Some, None}
 use lib.Dec.{eqb}
 use borrow.Author.Tests.{eq-eqb, eqb-true}
 use Rattle.verdict.proofs.Bools.{clash, test, decided}
@@ -12,8 +13,8 @@ use Rattle.verdict.proofs.Lowest.{all_true, all_none, all_more, all_fails}
 use Rattle.wire.specs.Bytes.{u16_at, Bytes}
 use Rattle.wire.specs.Words.{Words}
 use Rattle.grid.proofs.Equal.{eq_plain}
-use Rattle.chains.specs.Chains.{last_place, before_place, Chained, Found}
-use Rattle.chains.proofs.Walk.{Walk, walk_start, walk_step}
+use Rattle.chains.specs.Chains.{one_more, last_place, before_place, Chained, Found}
+use Rattle.chains.proofs.Walk.{Walk, at_some, walk_start, walk_step}
 use Rattle.tables.specs.Header.{RightHeader}
 use Rattle.tables.specs.Parts.{Parts, parts_of, table_of, word_of, vertex_word}
 use Rattle.tables.proofs.Reading.{whole_of}
@@ -73,15 +74,21 @@ module _ (p : Parts) (f : Finite p) (w : Words (table_of p 0)) where
         let z = e.0 in
         walk_start point_chains (point_key p) (same_point p v) (point_key p v) v m c same_chain g (omega (arith, e.1)) (rw z at q)
 
-    pub look_step : (g r : ℕ) → 0 < g → Look p v g → r ≡ u16_at m (before_place point_chains (g - 1)) → same_point p v (g - 1) ≡ false → Look p v r × (r < g)
-    look_step g r b i q ne = walk_step point_chains (point_key p) (same_point p v) (point_key p v) v m c same_chain g r b i q ne
+    pub look_step : (o : Option ℕ) (h r : ℕ) → o ≡ Some h → Look p v (one_more o) → r ≡ u16_at m (before_place point_chains h) → same_point p v h ≡ false
+        → Look p v r × (r < one_more o)
+    look_step o h r z i q ne = walk_step point_chains (point_key p) (same_point p v) (point_key p v) v m c same_chain o h r z i q ne
 
 -- ---- the lowest equal vertex, by what was found under the vertex
 
-module _ (p : Parts) (f : Finite p) (v g : ℕ) (l : v < p.vertices) (i : Found (same_point p v) v g) where
-  pub lowest_found : 0 < g → lowest_same p (g - 1) ≡ lowest_same p v
-  lowest_found m = sym (lowest_one p f v (g - 1) l (omega (arith, i.within)) (i.holds m))
+module _ (p : Parts) (f : Finite p) (v : ℕ) (o : Option ℕ) (l : v < p.vertices) (i : Found (same_point p v) v (one_more o)) where
+  pub lowest_found : (u : ℕ) → o ≡ Some u → (u < v) × (lowest_same p u ≡ lowest_same p v)
+  lowest_found u z =
+      let s = at_some o u z in
+      let same = subst (λ (j : ℕ). same_point p v j ≡ true) s.1 (i.holds s.0) in
+      (omega (arith, i.within, s), sym (lowest_one p f v u l (omega (arith, i.within, s)) same))
 
-  pub lowest_itself : g ≤ 0 → v ≡ lowest_same p v
-  lowest_itself m =
-      decided (dec_lt (lowest_same p v) v) (λ n. clash (lowest_same_point p f v l) (i.none m (lowest_same p v) n)) (λ n. omega (arith, lowest_le p f v l))
+  pub lowest_itself : o ≡ None → v ≡ lowest_same p v
+  lowest_itself z =
+      let m : one_more o ≡ 0 = ap one_more z in
+      decided (dec_lt (lowest_same p v) v) (λ n. clash (lowest_same_point p f v l) (i.none (omega (arith, m)) (lowest_same p v) n))
+      (λ n. omega (arith, lowest_le p f v l))

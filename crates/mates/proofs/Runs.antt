@@ -1,19 +1,22 @@
 -- Half-edges with mended ends: how many, whether one runs as a lower one, and that their chains leave the map alone. Assumes nothing.
 use Prim.Native.Nat.{ℕ, ◌*◌, ◌<◌, ◌≤◌}
 use native.Mathlib.Omega.{arith}
-use mathlib.Core.Path.{◌≡◌, refl, sym, subst}
+use mathlib.Core.Path.{◌≡◌, refl, ap}
 use mathlib.Core.Bool.{true, false}
 use mathlib.Core.List.{List}
 use lib.ListN.{length}
+use Rattle.std.specs.Prelude.{Option, Some, None, is_some}
+use Rattle.verdict.specs.Lowest.{any_under}
 use Rattle.verdict.specs.Memory.{work_size, cleared_to}
+use Rattle.verdict.proofs.Bools.{clash}
 use Rattle.verdict.proofs.Memory.{drop_cleared}
-use Rattle.chains.specs.Chains.{with_last, Found}
+use Rattle.chains.specs.Chains.{one_more, with_last, Found}
 use Rattle.chains.proofs.Chains.{drop_last}
 use Rattle.chains.proofs.Walk.{found_some, found_none}
 use Rattle.tables.specs.Parts.{Parts}
 use Rattle.pairs.specs.Halves.{halves, from, to, runs, repeats}
 use Rattle.corners.specs.Corners.{relinked, recornered}
-use Rattle.corners.specs.Memory.{map_at, top, SameTop, Mapped}
+use Rattle.corners.specs.Memory.{map_at, top, SameTop}
 use Rattle.mates.specs.Keys.{run_chains}
 
 -- the floor with the changed corners has as many faces and half-edges
@@ -35,16 +38,21 @@ pub top_last : (w y : List ℕ) (v h : ℕ) → v < run_chains → h < 12288 →
 unfolding top
 top_last w y v h l m e = rw e (drop_last map_at run_chains w v h l (omega arith))
 
-pub mapped_same : (p : Parts) (v w : List ℕ) → SameTop v w → Mapped p (top w) → Mapped p (top v)
-mapped_same p v w e m = subst (λ (t : List ℕ). Mapped p t) (sym e) m
-
 -- ---- whether half-edge h runs as a lower one, by what the search found
 
-module _ (q : Parts) (h a b g : ℕ) (e : a ≡ from q h) (f : b ≡ to q h) (i : Found (runs q a b) h g) where
-  pub repeat_found : 0 < g → repeats q h ≡ true
+module _ (q : Parts) (h a b : ℕ) (o : Option ℕ) (e : a ≡ from q h) (f : b ≡ to q h) (i : Found (runs q a b) h (one_more o)) where
+  pub repeat_found : is_some o ≡ true → repeats q h ≡ true
   unfolding repeats
-  repeat_found l = rw (← e, ← f) (found_some (runs q a b) h g i l)
+  repeat_found l = rw (← e, ← f) (some o refl)
+    where
+      some : (u : Option ℕ) → o ≡ u → any_under h (runs q a b) ≡ true
+      some None z = clash l (ap is_some z)
+      some (Some g) z = found_some (runs q a b) h o i g z
 
-  pub repeat_not : g ≤ 0 → repeats q h ≡ false
+  pub repeat_not : is_some o ≡ false → repeats q h ≡ false
   unfolding repeats
-  repeat_not l = rw (← e, ← f) (found_none (runs q a b) h g i l)
+  repeat_not l = rw (← e, ← f) (none o refl)
+    where
+      none : (u : Option ℕ) → o ≡ u → any_under h (runs q a b) ≡ false
+      none None z = found_none (runs q a b) h o i z
+      none (Some g) z = clash (ap is_some z) l

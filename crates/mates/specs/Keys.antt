@@ -1,8 +1,9 @@
 -- The chains that mending goes by: vertices by their coordinates, half-edges by their two mended ends. No rule speaks of them. Definitions only.
 use Rattle.std.specs.Prelude.{ℕ, ◌+◌, ◌*◌, ◌/◌, ◌%◌}
 use Rattle.grid.specs.Grid.{plain}
+use Rattle.chains.specs.Chains.{mixed}
 use Rattle.tables.specs.Parts.{Parts, vertex_word}
-use Rattle.pairs.specs.Chains.{stride, ends_key}
+use Rattle.pairs.specs.Chains.{ends_key}
 
 -- coordinate e of vertex v as a word, with zero's for minus zero's: equal coordinates have one
 abbrev pub point_word : Parts → ℕ → ℕ → ℕ
@@ -26,8 +27,8 @@ abbrev pub run_chains : ℕ
 run_chains = 4096
 
 -- the chain of the half-edges from vertex a to vertex b, and that of half-edge h
-unfoldable pub run_chain : ℕ → ℕ → ℕ
-run_chain a b = (a + stride * b) % run_chains
+abbrev pub run_chain : ℕ → ℕ → ℕ
+run_chain = mixed run_chains
 
 abbrev pub run_key : Parts → ℕ → ℕ
 run_key q = ends_key run_chain q

@@ -3,10 +3,11 @@
 #![tactic(auto)]
 
 ghost use Rattle.std.specs.Prelude.{◌≡◌, ◌+◌, ◌<◌, ◌≤◌, length};
-ghost use Rattle.verdict.specs.Lowest.{lowest};
+ghost use Rattle.verdict.specs.Lowest.{lowest, first};
 ghost use Rattle.verdict.specs.Verdict.{◌then◌};
+ghost use Rattle.verdict.specs.Refusals.{verdict_of};
 ghost use Rattle.verdict.specs.Memory.{work_size, SamePast};
-ghost use Rattle.chains.specs.Chains.{Chained, Found};
+ghost use Rattle.chains.specs.Chains.{one_more, Chained, Found};
 ghost use Rattle.tables.specs.Header.{RightHeader};
 ghost use Rattle.tables.specs.Parts.{parts_of, corner};
 ghost use Rattle.mesh.specs.Faces.{wrong_corners, rule8};
@@ -15,17 +16,15 @@ ghost use Rattle.pairs.specs.Halves.{halves, runs, repeats, rule15};
 ghost use Rattle.pairs.specs.Plain.{Apart};
 ghost use Rattle.corners.specs.Corners.{same_point, lowest_same, recornered};
 ghost use Rattle.corners.specs.Memory.{top, SameTop, Mapped, Mated};
-ghost use Rattle.mates.specs.Keys.{point_word, point_chains, point_key, run_chains, run_chain, run_key};
+ghost use Rattle.mates.specs.Keys.{point_word, point_chains, point_key, run_chains, run_key};
 ghost use Rattle.mates.specs.Steps.{MappedTo, IsMate, Ready};
 
-use verdict::Answer;
+use verdict::{Refusal, Verdict, refuse_at};
 
 // How many chains of vertices stand in the work memory, and later of half-edges.
 const POINT_CHAINS: usize = 16384;
 
 const RUN_CHAINS: usize = 4096;
-// By how many chains the next end moves a half-edge on.
-const STRIDE: usize = 517;
 
 // Coordinate e of vertex v as a word, with zero's for minus zero's.
 fn point_word(bytes: &[u8], v: usize, e: usize) -> u32
@@ -61,20 +60,21 @@ fn point_key(bytes: &[u8], v: usize) -> usize
     (668265263 * x + 374761393 * y + 1013904223 * z) / 4294967296 % POINT_CHAINS
 }
 
-// A vertex under v with the coordinates of v, as one more than its number, or 0: the last of them, looked for along the chain of v.
-fn find_same(bytes: &[u8], work: &[u8], v: usize) -> usize
+// A vertex under v with the coordinates of v, if there is one: the last of them, looked for along the chain of v.
+fn find_same(bytes: &[u8], work: &[u8], v: usize) -> Option<usize>
     requires right_header { RightHeader bytes.now × Finite (parts_of bytes.now) × (v < (parts_of bytes.now).vertices) }
     requires chained { (work_size ≤ length work.now) × Chained point_chains (point_key (parts_of bytes.now)) work.now v }
-    ensures { Found (same_point (parts_of bytes.now) v) v result }
+    ensures { Found (same_point (parts_of bytes.now) v) v (one_more result) }
 {
-    let mut g = chains::last_of(work, point_key(bytes, v));
-    while 0 < g {
-        if is_same(bytes, v, g - 1) {
-            return g;
+    let mut next = chains::last_of(work, point_key(bytes, v));
+    // No count: a chain is followed from its last number back, until it ends.
+    while let Some(u) = next {
+        if is_same(bytes, v, u) {
+            return Some(u);
         }
-        g = chains::before_of(work, POINT_CHAINS, g - 1);
+        next = chains::before_of(work, POINT_CHAINS, u);
     }
-    g
+    None
 }
 
 // The lowest vertex with the coordinates of v, by the map of the vertices under v.
@@ -83,9 +83,7 @@ fn lowest_by(bytes: &[u8], work: &[u8], v: usize) -> usize
     requires mapped { (work_size ≤ length work.now) × MappedTo (parts_of bytes.now) work.now v }
     ensures { result ≡ lowest_same (parts_of bytes.now) v }
 {
-    let g = find_same(bytes, work, v);
-    if 0 < g {
-        let u = g - 1;
+    if let Some(u) = find_same(bytes, work, v) {
         return wire::u16_at(work, corners::MAP_AT + 2 * u);
     }
     v
@@ -109,10 +107,8 @@ fn map_vertices(bytes: &[u8], work: &mut [u8])
 {
     let n = tables::count_of(bytes, 0);
     verdict::clear_to(work, 2 * POINT_CHAINS);
-    let mut v = 0;
-    while v < n {
+    for v in 0..n {
         map_vertex(bytes, work, v);
-        v += 1;
     }
 }
 
@@ -143,28 +139,13 @@ fn is_pinched(bytes: &[u8], work: &[u8], f: usize) -> bool
     c == a
 }
 
-// The lowest face with a mended corner used twice, of n.
-fn first_pinched(bytes: &[u8], work: &[u8], n: usize) -> usize
+// The lowest face with a mended corner used twice, if one of n has one.
+fn first_pinched(bytes: &[u8], work: &[u8], n: usize) -> Option<usize>
     requires right_header { RightHeader bytes.now × Finite (parts_of bytes.now) × Cornered (parts_of bytes.now) × (n ≡ (parts_of bytes.now).faces) }
     requires mapped { (work_size ≤ length work.now) × Mapped (parts_of bytes.now) (top work.now) }
-    ensures { result ≡ lowest n (wrong_corners (recornered (parts_of bytes.now))) }
+    ensures { result ≡ first n (wrong_corners (recornered (parts_of bytes.now))) }
 {
-    let mut f = 0;
-    while f < n {
-        if is_pinched(bytes, work, f) {
-            return f;
-        }
-        f += 1;
-    }
-    n
-}
-
-// The chain of the half-edges from vertex a to vertex b.
-fn run_chain(a: usize, b: usize) -> usize
-    requires { (a < 65536) × (b < 65536) }
-    ensures { (result ≡ run_chain a b) × (result < run_chains) }
-{
-    (a + STRIDE * b) % RUN_CHAINS
+    (0..n).find(|f| is_pinched(bytes, work, *f))
 }
 
 // Whether half-edge h runs from vertex a to vertex b, its ends mended.
@@ -179,45 +160,43 @@ fn runs_so(bytes: &[u8], work: &[u8], a: usize, b: usize, h: usize) -> bool
     false
 }
 
-// A half-edge under s that runs from vertex a to vertex b, as one more than its number, or 0. No others are chained, so s is named for the
-// promise alone.
-fn find_run(bytes: &[u8], work: &[u8], s: usize, a: usize, b: usize) -> usize
+// A half-edge under s that runs from vertex a to vertex b, if there is one. No others are chained, so s is named for the promise alone.
+fn find_run(bytes: &[u8], work: &[u8], s: usize, a: usize, b: usize) -> Option<usize>
     requires right_header { RightHeader bytes.now × Cornered (parts_of bytes.now) × (s ≤ halves (parts_of bytes.now)) × (a < 65536) × (b < 65536) }
     requires mapped { (work_size ≤ length work.now) × Mapped (parts_of bytes.now) (top work.now) }
     requires chained { Chained run_chains (run_key (recornered (parts_of bytes.now))) work.now s }
-    ensures { Found (runs (recornered (parts_of bytes.now)) a b) s result }
+    ensures { Found (runs (recornered (parts_of bytes.now)) a b) s (one_more result) }
 {
-    let mut g = chains::last_of(work, run_chain(a, b));
-    while 0 < g {
-        if runs_so(bytes, work, a, b, g - 1) {
-            return g;
+    let mut next = chains::last_of(work, chains::mixed::<RUN_CHAINS>(a, b));
+    // No count: a chain is followed from its last number back, until it ends.
+    while let Some(g) = next {
+        if runs_so(bytes, work, a, b, g) {
+            return Some(g);
         }
-        g = chains::before_of(work, RUN_CHAINS, g - 1);
+        next = chains::before_of(work, RUN_CHAINS, g);
     }
-    g
+    None
 }
 
 // Chains the half-edges one by one, up to the first that runs as a lower one.
-fn first_repeat(bytes: &[u8], work: &mut [u8]) -> usize
+fn first_repeat(bytes: &[u8], work: &mut [u8]) -> Option<usize>
     requires right_header { RightHeader bytes.now × Cornered (parts_of bytes.now) }
     requires mapped { (work_size ≤ length work.old) × Mapped (parts_of bytes.now) (top work.old) }
-    ensures answer { result ≡ lowest (halves (parts_of bytes.now)) (repeats (recornered (parts_of bytes.now))) }
-    ensures chained { Chained run_chains (run_key (recornered (parts_of bytes.now))) work.new result }
+    ensures answer { result ≡ first (halves (parts_of bytes.now)) (repeats (recornered (parts_of bytes.now))) }
+    ensures chained { Chained run_chains (run_key (recornered (parts_of bytes.now))) work.new (lowest (halves (parts_of bytes.now)) (repeats (recornered (parts_of bytes.now)))) }
     ensures memory { SameTop work.new work.old }
 {
     let n = pairs::halves_of(bytes);
     verdict::clear_to(work, 2 * RUN_CHAINS);
-    let mut h = 0;
-    while h < n {
+    for h in 0..n {
         let a = corners::from_of(bytes, work, h);
         let b = corners::to_of(bytes, work, h);
-        if 0 < find_run(bytes, work, h, a, b) {
-            return h;
+        if find_run(bytes, work, h, a, b).is_some() {
+            return Some(h);
         }
-        chains::put_last(work, RUN_CHAINS, run_chain(a, b), h);
-        h += 1;
+        chains::put_last(work, RUN_CHAINS, chains::mixed::<RUN_CHAINS>(a, b), h);
     }
-    n
+    None
 }
 
 // What is kept of half-edge h, where no two run the same way: the number of the one that runs the opposite way, or that there is none.
@@ -230,11 +209,7 @@ fn mate_of(bytes: &[u8], work: &[u8], h: usize) -> usize
     let n = pairs::halves_of(bytes);
     let a = corners::from_of(bytes, work, h);
     let b = corners::to_of(bytes, work, h);
-    let g = find_run(bytes, work, n, b, a);
-    if 0 < g {
-        return g - 1;
-    }
-    corners::LOOSE
+    find_run(bytes, work, n, b, a).unwrap_or(corners::LOOSE)
 }
 
 // Keeps what is known of each half-edge, where no two run the same way.
@@ -246,32 +221,23 @@ fn put_mates(bytes: &[u8], work: &mut [u8])
     ensures memory { SameTop work.new work.old }
 {
     let n = pairs::halves_of(bytes);
-    let mut h = 0;
-    while h < n {
+    for h in 0..n {
         let mate = mate_of(bytes, work, h);
         wire::put_u16(work, corners::MATES_AT + 2 * h, mate);
-        h += 1;
     }
 }
 
 // Rules 8 and 15 of the floor with the changed corners; where they are met, the map of vertices and the partners stand in the work memory.
-pub fn corners_verdict(bytes: &[u8], work: &mut [u8]) -> Answer
+pub fn corners_verdict(bytes: &[u8], work: &mut [u8]) -> Verdict
     requires { RightHeader bytes.now × Finite (parts_of bytes.now) × Cornered (parts_of bytes.now) × (work_size ≤ length work.old) }
-    ensures answer { result ≡ (rule8 (recornered (parts_of bytes.now)) then rule15 (recornered (parts_of bytes.now))) }
+    ensures answer { verdict_of result ≡ (rule8 (recornered (parts_of bytes.now)) then rule15 (recornered (parts_of bytes.now))) }
     ensures memory { SamePast work.new work.old }
-    ensures ready { result.number ≡ 0 → Ready (parts_of bytes.now) work.new }
+    ensures ready { (verdict_of result).number ≡ 0 → Ready (parts_of bytes.now) work.new }
 {
     map_vertices(bytes, work);
     let faces = tables::count_of(bytes, 1);
-    let pinched = first_pinched(bytes, work, faces);
-    if pinched < faces {
-        return verdict::first_rule(8, true, pinched as u32);
-    }
-    let n = pairs::halves_of(bytes);
-    let twice = first_repeat(bytes, work);
-    if twice < n {
-        return verdict::first_rule(15, true, twice as u32);
-    }
+    refuse_at(first_pinched(bytes, work, faces), Refusal::Corner)?;
+    refuse_at(first_repeat(bytes, work), Refusal::RunsTwice)?;
     put_mates(bytes, work);
-    verdict::first_rule(15, false, 0)
+    Ok(())
 }

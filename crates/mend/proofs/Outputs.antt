@@ -10,6 +10,9 @@ use Rattle.verdict.specs.Verdict.{refused, accepted, rule, ◌then◌, in_order}
 use Rattle.verdict.specs.Memory.{work_size, cleared_to, SamePast}
 use Rattle.verdict.specs.Output.{over, form_memory}
 use Rattle.verdict.specs.declared.Answer.{Answer}
+use Rattle.verdict.specs.declared.Refused.{Refused}
+use Rattle.verdict.specs.Refusals.{number_of}
+use Rattle.verdict.proofs.Results.{here, past, refused_memory}
 use Rattle.verdict.proofs.Verdict.{then_next, then_stop, then_assoc, then_both, met}
 use Rattle.verdict.proofs.Memory.{cleared_past}
 use Rattle.wire.specs.Bytes.{Bytes}
@@ -27,7 +30,7 @@ use Rattle.floor.proofs.Answers.{too_little, enough}
 use Rattle.corners.specs.Corners.{recornered}
 use Rattle.follow.specs.Ready.{Ready}
 use Rattle.seams.specs.Mended.{mended}
-use Rattle.seams.specs.Mend.{mended_form, mended_list, room_verdict, mend_verdict, answer_by, mend_answer, mend_output, mend_list}
+use Rattle.seams.specs.Mend.{rules_and_room, mended_form, mended_list, room_verdict, mend_verdict, answer_by, mend_answer, mend_output, mend_list}
 use Rattle.seams.specs.declared.Mended.{Mended}
 use Rattle.seams.proofs.Result.{whole}
 use Rattle.seams.proofs.Order.{mend_groups}
@@ -88,33 +91,32 @@ module _ (b w o t : List ℕ) where
   unfolding mend_answer mend_output mend_list form_memory
   by_refusal r m number place e z q k = rw (e, ne_eqb number 0 z) (q, (k, (refl, refl)))
 
-  -- the rules of the floor and of the changed corners, and then 40
-  abbrev seams : Answer
-  seams = rules1to15 b then in_order (early_rules (word_place b) (recornered (parts_of b)))
-
   too_little_verdict : length w < work_size → verdict ≡ refused 20 0
   unfolding rule20 rule
   too_little_verdict l = mend_groups b (length w) (length o) (length t) ∙ rw (lt-ltb (length w) work_size l) (then_stop (refused 20 0) (λ z. omega arith) _)
 
-  enough_verdict : work_size ≤ length w → verdict ≡ (seams then room_verdict b (length o) (length t))
-  unfolding rule20 rule
+  enough_verdict : work_size ≤ length w → verdict ≡ rules_and_room b (length o) (length t)
+  unfolding rule20 rule rules_and_room
   enough_verdict l = mend_groups b (length w) (length o) (length t) ∙ rw (le-ltb (length w) work_size l) (then_next accepted _ refl ∙ sym (then_assoc (rules1to15 b) _ _))
 
   pub little_memory : length w < work_size → (r : Mended) → r ≡ answer_by (refused 20 0) b → Done r w o t
   little_memory l r q = by_refusal r w 20 0 (too_little_verdict l) (λ z. omega arith) q (too_little b w l).1
 
   -- the memory is cleared at the end
-  module _ (l : work_size ≤ length w) (v m : List ℕ) (past : SamePast v w) (clear : m ≡ cleared_to work_size v) where
-    cleared : m ≡ reader_memory w
-    cleared = clear ∙ cleared_past v w past ∙ (enough b w l).1
+  pub all_decides : work_size ≤ length w → (v m : List ℕ) → SamePast v w → m ≡ cleared_to work_size v → (r : Mended) (n k : List ℕ) → let x = rules_and_room b (length o) (length t) in
+      r ≡ answer_by x b → n ≡ form_memory x (mended_form b) o → k ≡ form_memory x (mended_list b) t → Done r m n k
+  unfolding mend_answer mend_output mend_list
+  all_decides l v m past clear r n k q f g = rw (enough_verdict l) (q, (clear ∙ cleared_past v w past ∙ (enough b w l).1, (f, g)))
 
-    pub rule_refuses : (so : Answer) (r : Mended) → so ≡ seams → (so.number ≡ 0 → ⊥) → r ≡ answer_by (refused so.number so.place) b → Done r m o t
-    rule_refuses so r e z q =
-        by_refusal r m so.number so.place (enough_verdict l ∙ ap (λ (x : Answer). x then room_verdict b (length o) (length t)) (sym e) ∙ then_stop so z _) z q cleared
+-- a verdict that refuses, and one that lets 40 decide
+module _ (b o t : List ℕ) where
+  pub rules_refuse : (r : Refused) → refused (number_of r.refusal) r.place ≡ (rules1to15 b then in_order (early_rules (word_place b) (recornered (parts_of b)))) → let x = rules_and_room b (length o) (length t) in
+      (answer_by (refused (number_of r.refusal) r.place) b ≡ answer_by x b) × ((o ≡ form_memory x (mended_form b) o) × (t ≡ form_memory x (mended_list b) t))
+  unfolding rules_and_room
+  rules_refuse r e =
+      let x = here r (room_verdict b (length o) (length t)) e in
+      (ap (λ (a : Answer). answer_by a b) x, (refused_memory (mended_form b) o r x, refused_memory (mended_list b) t r x))
 
-    pub room_decides : (so : Answer) (r : Mended) (n k : List ℕ) → so ≡ seams → so.number ≡ 0 → let x = room_verdict b (length o) (length t) in
-        r ≡ answer_by x b → n ≡ form_memory x (mended_form b) o → k ≡ form_memory x (mended_list b) t → Done r m n k
-    unfolding mend_answer mend_output mend_list
-    room_decides so r n k e z q f g =
-        let x : verdict ≡ room_verdict b (length o) (length t) = enough_verdict l ∙ ap (λ (a : Answer). a then room_verdict b (length o) (length t)) (sym e) ∙ then_next so _ z in
-        rw x (q, (cleared, (f, g)))
+  pub room_decides : accepted ≡ (rules1to15 b then in_order (early_rules (word_place b) (recornered (parts_of b)))) → room_verdict b (length o) (length t) ≡ rules_and_room b (length o) (length t)
+  unfolding rules_and_room
+  room_decides e = past e refl

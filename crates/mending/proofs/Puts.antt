@@ -4,11 +4,24 @@ use native.Mathlib.Omega.{arith}
 use native.Mathlib.Numerals.{add-one}
 use native.Mathlib.Nat.{suc-mul}
 use native.Mathlib.Decide.{ℕ_discrete}
-use mathlib.Core.Path.{◌≡◌, refl, sym, ap, ◌∙◌}
+use mathlib.Core.Path.{◌≡◌, refl, sym, ap, subst, ◌∙◌}
 use mathlib.Core.Bool.{Bool, true, false, cond}
 use mathlib.Core.List.{List, [], ◌∷◌, ◌++◌, append-nil}
 use lib.ListN.{length, get_or, take, length-append}
 use lib.Seq.{take-suc, take_all, length-take-le}
+use denote.Ref.{Bor}
+use denote.Param.Members.{Mut}
+use Rattle.std.specs.declared.ops.Range.{Range}
+use Rattle.std.specs.declared.iter.Filter.{Filter}
+use Rattle.std.specs.Fn.{CalledAt}
+use Rattle.std.specs.Iterator.{Drains}
+use Rattle.std.specs.Iterator.Adapters.{filter_source, filter_callee, filter_steps}
+use Rattle.std.specs.List.{filter, range_with_len}
+use Rattle.std.proofs.iter.Yields.{nat_range_steps}
+use Rattle.std.proofs.lemmas.Iterator.{YieldsList-from_range}
+use Rattle.std.proofs.lemmas.Iterator.Consumers.{YieldsList-at, YieldsList-from_filter, count_from_yields_List}
+use Rattle.std.proofs.lemmas.List.{map-id}
+use Rattle.std.proofs.lemmas.List.FromFn.{filter_of_map_range_with_len_more}
 use Rattle.verdict.proofs.Bools.{decided, test}
 use Rattle.wire.specs.Bytes.{u32_bytes, put, put_u32}
 use Rattle.wire.specs.Words.{bytes_of}
@@ -92,6 +105,24 @@ module _ (t : ℕ → Bool) (r : ℕ → List ℕ) (k : ℕ) (long : (i : ℕ) �
       (λ y. omega (arith, rw add-one at (length_yes n y), listed_few n, suc-mul n k))
       (λ y. omega (arith, rw add-one at (length_no n y), listed_few n, suc-mul n k))
 
+  -- they are as long as k for each number that passes, counted by `(0..n).filter(..).count()`
+  listed_long_of : (n : ℕ) → length (filter t (range_with_len 0 n)) * k ≡ length (listed t r n)
+  listed_long_of zero = omega (arith, length_none t r)
+  listed_long_of (suc n) =
+      let e : n + 1 ≡ suc n = omega arith in
+      let more : filter t (range_with_len 0 (n + 1)) ≡ filter t (range_with_len 0 n) ++ cond (t n) (n ∷ []) [] = simp map-id at (filter_of_map_range_with_len_more t (λ x. x) 0 n n (omega arith)) in
+      subst (λ (m : ℕ). length (filter t (range_with_len 0 m)) * k ≡ length (listed t r m)) e
+      (rw (more, length-append (filter t (range_with_len 0 n)) (cond (t n) (n ∷ []) []))
+      (test (t n)
+      (λ y. rw y (omega (arith, length_yes n y, listed_long_of n)))
+      (λ y. rw y (omega (arith, length_no n y, listed_long_of n)))))
+
+  pub listed_counted : {F : Type 0} {g : Mut F (Bor ℕ × Unit {0}) Bool} (n : ℕ) (s : Filter (Range ℕ) F) (c : ℕ) (f : F)
+      → (xs : List ℕ) × Drains (filter_steps nat_range_steps g) s xs × (c ≡ length xs) → filter_source s ≡ record { start = 0; end = n } → filter_callee s ≡ f
+      → ((x : ℕ) (b : Bool) (q : F) → CalledAt g f x b q → (q ≡ f) × (b ≡ t x)) → c * k ≡ length (listed t r n)
+  listed_counted {g = g} n s c f ran from by does =
+      rw (count_from_yields_List s c ran (YieldsList-from_filter g t (YieldsList-at from (YieldsList-from_range 0 n n refl (omega arith))) by does)) (listed_long_of n)
+
   -- none, one more or not
   module _ (o : List ℕ) (at : ℕ) where
     pub listed_start : Listed t r o at o at 0
@@ -113,6 +144,3 @@ module _ (t : ℕ → Bool) (r : ℕ → List ℕ) (k : ℕ) (long : (i : ℕ) �
     pub listed_room : (i n : ℕ) {list : List ℕ} {here : ℕ} → Listed t r o at list here i → i < n → t i ≡ true → at + length (listed t r n) ≤ length o → here + k ≤ length list
     listed_room i n a l y h =
         omega (arith, put_long o (listed t r i) at a.bytes, a.next, length_yes i y, each_within (λ j. cond (t j) (r j) []) (i + 1) n (omega arith))
-
-    pub listed_long : (i : ℕ) {list : List ℕ} {here : ℕ} → Listed t r o at list here i → length list ≡ length o
-    listed_long i a = put_long o (listed t r i) at a.bytes

@@ -28,6 +28,7 @@ const CORNER_RECORD: usize = 15;
 const LOST_RECORD: usize = 7;
 
 // The vertex that corner j becomes, as it stands in the file or as another.
+#[tactic(auto, using(crate::proofs::Tables::corner_low))]
 fn corner_at(bytes: &[u8], work: &[u8], e: usize, j: usize) -> u32
     requires { Worked bytes.now work.now e × (j < 3 * (parts_of bytes.now).faces) }
     ensures { result ≡ new_corner (parts_of bytes.now) j }
@@ -43,10 +44,8 @@ fn put_corners(bytes: &[u8], work: &[u8], e: usize, out: &mut [u8], at: usize) -
     ensures table { out.new ≡ put out.old at (bytes_of (mended_corners (parts_of bytes.now))) }
 {
     let n = 3 * tables::count_of(bytes, 1);
-    let mut j = 0;
-    while j < n {
+    for j in 0..n {
         wire::put_u32(out, at + 4 * j, corner_at(bytes, work, e, j));
-        j += 1;
     }
     at + 4 * n
 }
@@ -58,10 +57,8 @@ fn put_adjacency(bytes: &[u8], work: &[u8], e: usize, out: &mut [u8], at: usize)
     ensures table { out.new ≡ put out.old at (bytes_of (adjacency_of (recornered (parts_of bytes.now)))) }
 {
     let n = pairs::halves_of(bytes);
-    let mut h = 0;
-    while h < n {
+    for h in 0..n {
         wire::put_u32(out, at + 4 * h, kept::pairing_of(bytes, work, h));
-        h += 1;
     }
     at + 4 * n
 }
@@ -72,12 +69,10 @@ fn put_entries(bytes: &[u8], work: &[u8], e: usize, out: &mut [u8], at: usize) -
     ensures next { result ≡ at + 4 * length (entries_for (parts_of bytes.now) (edge_list (web_in bytes.now))) }
     ensures table { out.new ≡ put out.old at (bytes_of (entries_for (parts_of bytes.now) (edge_list (web_in bytes.now)))) }
 {
-    let mut i = 0;
-    while i < e {
+    for i in 0..e {
         let h = wire::u16_at(work, EDGES_AT + 2 * i) % MARK;
         wire::put_u32(out, at + 8 * i, h as u32);
         wire::put_u32(out, at + 8 * i + 4, kept::kept_of(bytes, work, h));
-        i += 1;
     }
     at + 8 * e
 }
@@ -88,13 +83,11 @@ fn put_ends(bytes: &[u8], work: &[u8], e: usize, out: &mut [u8], at: usize)
     ensures { out.new ≡ put out.old at (bytes_of (end_list (web_in bytes.now))) }
 {
     let mut k = 0;
-    let mut i = 0;
-    while i < e {
+    for i in 0..e {
         if MARK <= wire::u16_at(work, EDGES_AT + 2 * i) {
             wire::put_u32(out, at + 4 * k, (i + 1) as u32);
             k += 1;
         }
-        i += 1;
     }
 }
 
@@ -117,6 +110,7 @@ pub fn write_mended(bytes: &[u8], work: &[u8], e: usize, n: Numbers, out: &mut [
 }
 
 // Whether corner j becomes another vertex.
+#[tactic(auto, unfolding(seams::specs::Changes::changed))]
 fn is_changed(bytes: &[u8], work: &[u8], e: usize, j: usize) -> bool
     requires { Worked bytes.now work.now e × (j < 3 * (parts_of bytes.now).faces) }
     ensures { result ≡ changed (parts_of bytes.now) j }
@@ -130,15 +124,7 @@ fn corners_length(bytes: &[u8], work: &[u8], e: usize) -> usize
     ensures { (result ≡ length (corner_changes (parts_of bytes.now))) × (result ≤ 184320) }
 {
     let n = 3 * tables::count_of(bytes, 1);
-    let mut total = 0;
-    let mut j = 0;
-    while j < n {
-        if is_changed(bytes, work, e, j) {
-            total += CORNER_RECORD;
-        }
-        j += 1;
-    }
-    total
+    (0..n).filter(|j| is_changed(bytes, work, e, *j)).count() * CORNER_RECORD
 }
 
 // How many bytes the transitions lost take in it.
@@ -147,18 +133,11 @@ fn lost_length(bytes: &[u8], work: &[u8], e: usize) -> usize
     ensures { (result ≡ length (lost_changes (parts_of bytes.now))) × (result ≤ 86016) }
 {
     let n = pairs::halves_of(bytes);
-    let mut total = 0;
-    let mut h = 0;
-    while h < n {
-        if kept::is_lost(bytes, work, h) {
-            total += LOST_RECORD;
-        }
-        h += 1;
-    }
-    total
+    (0..n).filter(|h| kept::is_lost(bytes, work, *h)).count() * LOST_RECORD
 }
 
 // The length of the list.
+#[tactic(auto, using(crate::proofs::Records::changes_long))]
 pub fn list_length(bytes: &[u8], work: &[u8], e: usize) -> usize
     requires { Worked bytes.now work.now e }
     ensures { (result ≡ length (changes (parts_of bytes.now))) × (result ≤ 270336) }
@@ -167,6 +146,7 @@ pub fn list_length(bytes: &[u8], work: &[u8], e: usize) -> usize
 }
 
 // A record's tag and the length of what follows.
+#[tactic(auto, using(crate::proofs::Puts::put_long, crate::proofs::Records::tag_put))]
 fn put_tag(list: &mut [u8], at: usize, tag: u8, size: usize)
     requires { at + 3 ≤ length list.old }
     ensures { list.new ≡ put list.old at (tag ∷ u16_bytes size) }
@@ -187,6 +167,7 @@ fn put_corner_record(bytes: &[u8], work: &[u8], e: usize, list: &mut [u8], at: u
 }
 
 // The record of half-edge h, whose transition is lost.
+#[tactic(auto, using(crate::proofs::Records::lost_put))]
 fn put_lost_record(list: &mut [u8], at: usize, h: usize)
     requires { (h < 12288) × (at + 7 ≤ length list.old) }
     ensures { list.new ≡ put list.old at (lost_record h) }
@@ -203,13 +184,11 @@ fn put_corner_changes(bytes: &[u8], work: &[u8], e: usize, list: &mut [u8]) -> u
 {
     let n = 3 * tables::count_of(bytes, 1);
     let mut at = 0;
-    let mut j = 0;
-    while j < n {
+    for j in 0..n {
         if is_changed(bytes, work, e, j) {
             put_corner_record(bytes, work, e, list, at, j);
             at += CORNER_RECORD;
         }
-        j += 1;
     }
     at
 }
@@ -221,17 +200,16 @@ fn put_lost_changes(bytes: &[u8], work: &[u8], e: usize, list: &mut [u8], start:
 {
     let n = pairs::halves_of(bytes);
     let mut at = start;
-    let mut h = 0;
-    while h < n {
+    for h in 0..n {
         if kept::is_lost(bytes, work, h) {
             put_lost_record(list, at, h);
             at += LOST_RECORD;
         }
-        h += 1;
     }
 }
 
 // The list of changes, over the start of list.
+#[tactic(auto, using(crate::proofs::Records::changes_long, crate::proofs::Records::list_put))]
 pub fn write_list(bytes: &[u8], work: &[u8], e: usize, list: &mut [u8])
     requires { Worked bytes.now work.now e × (length (changes (parts_of bytes.now)) ≤ length list.old) }
     ensures { list.new ≡ over (changes (parts_of bytes.now)) list.old }

@@ -16,7 +16,7 @@ use Rattle.verdict.proofs.Lists.{tally_same}
 use Rattle.verdict.proofs.Verdict.{passed, then_both, each_met, each_passes}
 use Rattle.grid.specs.Grid.{finite}
 use Rattle.tables.specs.Parts.{Parts, count_of, word_of, corner, material}
-use Rattle.mesh.specs.Floats.{wild, wild_head, wild_in, rule7_in, rule7}
+use Rattle.mesh.specs.Floats.{rule7_head, wild, wild_head, wild_in, rule7_in, rule7}
 use Rattle.mesh.specs.Faces.{wrong_corner, wrong_corners, walkables, walkable, strange, misplaced, rule8, rule9, rule10}
 use Rattle.mesh.specs.Mesh.{rules7to10, IsFinite, Walkable, Finite, Cornered, Painted, Meshed}
 use Rattle.mesh.proofs.Wild.{split_in, entry_of, entry_in}
@@ -62,7 +62,7 @@ module _ (place : ℕ → ℕ → ℕ) (p : Parts) (k per : ℕ) where
 
 module _ (place : ℕ → ℕ → ℕ) (p : Parts) where
   all_finite : (rule7 place p).number ≡ 0 → Finite p
-  unfolding rule7 wild_head
+  unfolding rule7 rule7_head wild_head
   all_finite z =
       let p4 = passed _ _ z in
       let p3 = passed _ _ p4.0 in
@@ -77,7 +77,7 @@ module _ (place : ℕ → ℕ → ℕ) (p : Parts) where
       }
 
   pub finite_all : Finite p → rule7 place p ≡ accepted
-  unfolding rule7 wild_head
+  unfolding rule7 rule7_head wild_head
   finite_all f =
       then_both
       (then_both

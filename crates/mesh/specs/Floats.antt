@@ -24,11 +24,19 @@ wild_in p k per j = wild (word_of p k (j / per) (j % per))
 unfoldable pub wild_from : List ℕ → ℕ → ℕ → Bool
 wild_from b at j = wild (u32_at b (at + 4 * j))
 
+-- where float j of table k lies
+abbrev pub float_place : (ℕ → ℕ → ℕ) → ℕ → ℕ → ℕ → ℕ
+float_place place k per j = place k (word_index k (j / per) (j % per))
+
 -- 7, of one table
 unfoldable pub rule7_in : (ℕ → ℕ → ℕ) → Parts → ℕ → ℕ → Answer
-rule7_in place p k per = rule_of_each 7 (count_of p k * per) (wild_in p k per) (λ j. place k (word_index k (j / per) (j % per)))
+rule7_in place p k per = rule_of_each 7 (count_of p k * per) (wild_in p k per) (float_place place k per)
+
+-- 7, of the header
+unfoldable pub rule7_head : Parts → Answer
+rule7_head p = rule_of_each 7 15 (wild_head p) (λ i. 12 + 4 * i)
 
 -- 7: header, vertices, normals, distances, boxes
 unfoldable pub rule7 : (ℕ → ℕ → ℕ) → Parts → Answer
 rule7 place p =
-    rule_of_each 7 15 (wild_head p) (λ i. 12 + 4 * i) then rule7_in place p 0 3 then rule7_in place p 3 3 then rule7_in place p 4 1 then rule7_in place p 5 6
+    rule7_head p then rule7_in place p 0 3 then rule7_in place p 3 3 then rule7_in place p 4 1 then rule7_in place p 5 6

@@ -1,27 +1,30 @@
 // Rules 7 to 10 of the floor's reader: finite floats, corners, materials.
 #![tactic(auto)]
 
-ghost use Rattle.std.specs.Prelude.{◌≡◌, ◌+◌, ◌*◌, ◌<◌, ◌≤◌, length};
-ghost use Rattle.verdict.specs.Lowest.{lowest};
-ghost use Rattle.verdict.specs.Verdict.{◌then◌};
+ghost use Rattle.std.specs.Prelude.{◌≡◌, ◌+◌, ◌*◌, ◌^◌, ◌<◌, ◌≤◌, length, IfSome};
+ghost use Rattle.std.specs.Option.{option_map};
+ghost use Rattle.verdict.specs.Lowest.{first};
+ghost use Rattle.verdict.specs.Refusals.{verdict_of};
 ghost use Rattle.tables.specs.Tables.{table_at, width};
 ghost use Rattle.tables.specs.Header.{floor_tables, RightHeader};
 ghost use Rattle.tables.specs.Parts.{parts_of, count_of, word_place};
-ghost use Rattle.mesh.specs.Floats.{wild, wild_head, wild_from, wild_in, rule7_in, rule7};
+ghost use Rattle.mesh.specs.Floats.{wild, wild_head, wild_from, wild_in, float_place, rule7_head, rule7_in, rule7};
 ghost use Rattle.mesh.specs.Faces.{wrong_corner, wrong_corners, walkable, strange, misplaced};
 ghost use Rattle.mesh.specs.Mesh.{rules7to10};
 
-use verdict::Answer;
+use verdict::{Refusal, Verdict, refuse_at};
 
 // Which of the materials 0 to 22 are walkable: bit m is set where material m is. A number, for an array would be built anew at each look.
 const WALKABLE: u32 = 0b111_0101_0111_1110_0111_1010;
 
+#[tactic(auto, unfolding(crate::specs::Floats::wild))]
 fn is_wild(bits: u32) -> bool
     ensures { result ≡ wild bits }
 {
     !grid::is_finite(bits)
 }
 
+#[tactic(auto, unfolding(crate::specs::Floats::wild_head))]
 fn is_wild_head(bytes: &[u8], i: usize) -> bool
     requires { RightHeader bytes.now × (i < 15) }
     ensures { result ≡ wild_head (parts_of bytes.now) i }
@@ -29,84 +32,79 @@ fn is_wild_head(bytes: &[u8], i: usize) -> bool
     is_wild(tables::float_word(bytes, i))
 }
 
-// The first of the header's floats that is wild, or 15.
-fn first_wild_head(bytes: &[u8]) -> usize
+// The first of the header's floats that is wild.
+fn first_wild_head(bytes: &[u8]) -> Option<usize>
     requires { RightHeader bytes.now }
-    ensures { (result ≡ lowest 15 (wild_head (parts_of bytes.now))) × (result ≤ 15) }
+    ensures { result ≡ first 15 (wild_head (parts_of bytes.now)) }
 {
-    let mut i = 0;
-    while i < 15 {
-        if is_wild_head(bytes, i) {
-            return i;
-        }
-        i += 1;
-    }
-    15
+    (0..15).find(|i| is_wild_head(bytes, *i))
 }
 
-// The first wild one of n words from `at` on, or n.
-fn first_wild_word(bytes: &[u8], at: usize, n: usize) -> usize
+// Where the header's float i lies.
+fn head_place(i: usize) -> usize
+    requires { i < 15 }
+    ensures { result ≡ 12 + 4 * i }
+{
+    12 + 4 * i
+}
+
+// 7, of the header.
+fn head_verdict(bytes: &[u8]) -> Verdict
+    requires { RightHeader bytes.now }
+    ensures { verdict_of result ≡ rule7_head (parts_of bytes.now) }
+{
+    let place = first_wild_head(bytes).map(head_place);
+    refuse_at(place, Refusal::NotFinite)
+}
+
+// The first wild one of n words from `at` on.
+fn first_wild_word(bytes: &[u8], at: usize, n: usize) -> Option<usize>
     requires { at + 4 * n ≤ length bytes.now }
-    ensures { result ≡ lowest n (wild_from bytes.now at) }
+    ensures { result ≡ first n (wild_from bytes.now at) }
 {
-    let mut j = 0;
-    while j < n {
-        if is_wild(wire::u32_at(bytes, at + 4 * j)) {
-            return j;
-        }
-        j += 1;
-    }
-    n
+    (0..n).find(|j| is_wild(wire::u32_at(bytes, at + 4 * j)))
 }
 
-// The first float of table k that is wild, of n. Where the table lies is read once, and not for each float.
-fn first_wild(bytes: &[u8], k: usize, per: usize, n: usize) -> usize
-    requires { RightHeader bytes.now × (k < 9) × (0 < per) × (per ≤ width (table_at floor_tables k)) × (n ≡ count_of (parts_of bytes.now) k * per) }
-    ensures { result ≡ lowest n (wild_in (parts_of bytes.now) k per) }
+// Where the first float of table k that is wild lies. Where the table lies is read once, and not for each float.
+fn first_wild(bytes: &[u8], k: usize, per: usize) -> Option<usize>
+    requires { RightHeader bytes.now × (k < 9) × (0 < per) × (per ≤ width (table_at floor_tables k)) }
+    ensures place { result ≡ option_map (float_place (word_place bytes.now) k per) (first (count_of (parts_of bytes.now) k * per) (wild_in (parts_of bytes.now) k per)) }
+    ensures inside { IfSome result (λ place. place < 2 ^ 32) }
 {
-    let t = tables::table_at(k);
-    let size = t.size;
+    let size = tables::table_at(k).size;
     let start = tables::start_of(bytes, k);
-    let count = tables::count_of(bytes, k);
-    let mut i = 0;
-    while i < count {
-        let e = first_wild_word(bytes, start + i * size, per);
-        if e < per {
-            return i * per + e;
+    for i in 0..tables::count_of(bytes, k) {
+        if let Some(e) = first_wild_word(bytes, start + i * size, per) {
+            return Some(tables::place_of(bytes, k, i, e));
         }
-        i += 1;
     }
-    n
+    None
 }
 
 // 7, of one table.
-fn then_wild(so: Answer, bytes: &[u8], k: usize, per: usize) -> Answer
+#[tactic(auto, using(verdict::proofs::Results::each_by_place), unfolding(crate::specs::Floats::rule7_in))]
+fn table_verdict(bytes: &[u8], k: usize, per: usize) -> Verdict
     requires { RightHeader bytes.now × (k < 9) × (0 < per) × (per ≤ 6) × (per ≤ width (table_at floor_tables k)) }
-    ensures { result ≡ (so then rule7_in (word_place bytes.now) (parts_of bytes.now) k per) }
+    ensures { verdict_of result ≡ rule7_in (word_place bytes.now) (parts_of bytes.now) k per }
 {
-    let n = tables::count_of(bytes, k) * per;
-    let j = first_wild(bytes, k, per, n);
-    if j < n {
-        let at = tables::place_of(bytes, k, j / per, j % per);
-        return verdict::then_rule(so, 7, true, at as u32);
-    }
-    verdict::then_rule(so, 7, false, 0)
+    refuse_at(first_wild(bytes, k, per), Refusal::NotFinite)
 }
 
 // 7
-fn floats_verdict(bytes: &[u8]) -> Answer
+#[tactic(auto, using(verdict::proofs::Results::here, verdict::proofs::Results::past), unfolding(crate::specs::Floats::rule7))]
+fn floats_verdict(bytes: &[u8]) -> Verdict
     requires { RightHeader bytes.now }
-    ensures { result ≡ rule7 (word_place bytes.now) (parts_of bytes.now) }
+    ensures { verdict_of result ≡ rule7 (word_place bytes.now) (parts_of bytes.now) }
 {
-    let i = first_wild_head(bytes);
-    let a = verdict::first_rule(7, i < 15, (12 + 4 * i) as u32);
-    let b = then_wild(a, bytes, 0, 3);
-    let c = then_wild(b, bytes, 3, 3);
-    let d = then_wild(c, bytes, 4, 1);
-    then_wild(d, bytes, 5, 6)
+    head_verdict(bytes)?;
+    table_verdict(bytes, 0, 3)?;
+    table_verdict(bytes, 3, 3)?;
+    table_verdict(bytes, 4, 1)?;
+    table_verdict(bytes, 5, 6)
 }
 
 // Corner e of face f names no vertex, or is the next corner too.
+#[tactic(auto, using(crate::proofs::Corners::too_large, crate::proofs::Corners::by_next))]
 fn wrong_corner(bytes: &[u8], f: usize, e: usize) -> bool
     requires { RightHeader bytes.now × (f < (parts_of bytes.now).faces) × (e < 3) }
     ensures { result ≡ wrong_corner (parts_of bytes.now) f e }
@@ -123,32 +121,19 @@ fn wrong_corners(bytes: &[u8], f: usize) -> bool
     requires { RightHeader bytes.now × (f < (parts_of bytes.now).faces) }
     ensures { result ≡ wrong_corners (parts_of bytes.now) f }
 {
-    let mut e = 0;
-    while e < 3 {
-        if wrong_corner(bytes, f, e) {
-            return true;
-        }
-        e += 1;
-    }
-    false
+    (0..3).any(|e| wrong_corner(bytes, f, e))
 }
 
-// The lowest face with wrong corners, of n.
-fn first_cornered(bytes: &[u8], n: usize) -> usize
-    requires { RightHeader bytes.now × (n ≡ (parts_of bytes.now).faces) }
-    ensures { result ≡ lowest n (wrong_corners (parts_of bytes.now)) }
+// The lowest face with wrong corners.
+fn first_cornered(bytes: &[u8]) -> Option<usize>
+    requires { RightHeader bytes.now }
+    ensures { result ≡ first (parts_of bytes.now).faces (wrong_corners (parts_of bytes.now)) }
 {
-    let mut f = 0;
-    while f < n {
-        if wrong_corners(bytes, f) {
-            return f;
-        }
-        f += 1;
-    }
-    n
+    (0..tables::count_of(bytes, 1)).find(|f| wrong_corners(bytes, *f))
 }
 
 // Whether a material is walkable.
+#[tactic(auto, using(crate::proofs::Walkable::flag_walkable, crate::proofs::Walkable::past_walkable))]
 pub fn is_walkable(m: u32) -> bool
     ensures { result ≡ walkable m }
 {
@@ -158,6 +143,7 @@ pub fn is_walkable(m: u32) -> bool
     false
 }
 
+#[tactic(auto, unfolding(crate::specs::Faces::strange))]
 fn is_strange(bytes: &[u8], f: usize) -> bool
     requires { RightHeader bytes.now × (f < (parts_of bytes.now).faces) }
     ensures { result ≡ strange (parts_of bytes.now) f }
@@ -165,21 +151,15 @@ fn is_strange(bytes: &[u8], f: usize) -> bool
     22 < tables::material_of(bytes, f)
 }
 
-// The lowest face with a strange material, of n.
-fn first_strange(bytes: &[u8], n: usize) -> usize
-    requires { RightHeader bytes.now × (n ≡ (parts_of bytes.now).faces) }
-    ensures { result ≡ lowest n (strange (parts_of bytes.now)) }
+// The lowest face with a strange material.
+fn first_strange(bytes: &[u8]) -> Option<usize>
+    requires { RightHeader bytes.now }
+    ensures { result ≡ first (parts_of bytes.now).faces (strange (parts_of bytes.now)) }
 {
-    let mut f = 0;
-    while f < n {
-        if is_strange(bytes, f) {
-            return f;
-        }
-        f += 1;
-    }
-    n
+    (0..tables::count_of(bytes, 1)).find(|f| is_strange(bytes, *f))
 }
 
+#[tactic(auto, using(crate::proofs::Walkable::misplaced_under, crate::proofs::Walkable::misplaced_past))]
 fn is_misplaced(bytes: &[u8], f: usize) -> bool
     requires { RightHeader bytes.now × (f < (parts_of bytes.now).faces) }
     ensures { result ≡ misplaced (parts_of bytes.now) f }
@@ -192,32 +172,22 @@ fn is_misplaced(bytes: &[u8], f: usize) -> bool
     w
 }
 
-// The lowest misplaced face, of n.
-fn first_misplaced(bytes: &[u8], n: usize) -> usize
-    requires { RightHeader bytes.now × (n ≡ (parts_of bytes.now).faces) }
-    ensures { result ≡ lowest n (misplaced (parts_of bytes.now)) }
+// The lowest misplaced face.
+fn first_misplaced(bytes: &[u8]) -> Option<usize>
+    requires { RightHeader bytes.now }
+    ensures { result ≡ first (parts_of bytes.now).faces (misplaced (parts_of bytes.now)) }
 {
-    let mut f = 0;
-    while f < n {
-        if is_misplaced(bytes, f) {
-            return f;
-        }
-        f += 1;
-    }
-    n
+    (0..tables::count_of(bytes, 1)).find(|f| is_misplaced(bytes, *f))
 }
 
 // Rules 7 to 10 of a file with a right header.
-pub fn mesh_verdict(bytes: &[u8]) -> Answer
+#[tactic(auto, using(verdict::proofs::Results::here, verdict::proofs::Results::past, verdict::proofs::Results::first_under, verdict::proofs::Results::each_by_first), unfolding(crate::specs::Mesh::rules7to10, crate::specs::Faces::rule8, crate::specs::Faces::rule9, crate::specs::Faces::rule10))]
+pub fn mesh_verdict(bytes: &[u8]) -> Verdict
     requires { RightHeader bytes.now }
-    ensures { result ≡ rules7to10 (word_place bytes.now) (parts_of bytes.now) }
+    ensures { verdict_of result ≡ rules7to10 (word_place bytes.now) (parts_of bytes.now) }
 {
-    let so = floats_verdict(bytes);
-    let n = tables::count_of(bytes, 1);
-    let c = first_cornered(bytes, n);
-    let a = verdict::then_rule(so, 8, c < n, c as u32);
-    let s = first_strange(bytes, n);
-    let b = verdict::then_rule(a, 9, s < n, s as u32);
-    let m = first_misplaced(bytes, n);
-    verdict::then_rule(b, 10, m < n, m as u32)
+    floats_verdict(bytes)?;
+    refuse_at(first_cornered(bytes), Refusal::Corner)?;
+    refuse_at(first_strange(bytes), Refusal::Material)?;
+    refuse_at(first_misplaced(bytes), Refusal::WalkableFirst)
 }

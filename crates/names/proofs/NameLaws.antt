@@ -1,6 +1,6 @@
 -- Names: what stands in one, lower case, and when two are the same. Assumes nothing.
 use mathlib.Core.Path.{◌≡◌, refl, sym, ap, ◌∙◌}
-use mathlib.Core.Bool.{true, false, ◌&&◌}
+use mathlib.Core.Bool.{Bool, true, false, ◌&&◌}
 use mathlib.Core.List.{List, [], ◌∷◌}
 use Prim.Native.Nat.{ℕ, ◌+◌, ◌≤◌, ◌<◌}
 use native.Mathlib.Numerals.{add-one}
@@ -9,13 +9,15 @@ use lib.Dec.{eqb, leb}
 use lib.ListN.{length, get_or, drop, drop_of_length-le}
 use lib.Seq.{drop-cons}
 use borrow.Author.Tests.{eq-eqb, eqb-true, leb-true, le-leb}
+use Rattle.std.specs.List.{list_all, zip}
+use Rattle.std.specs.Str.{bytes_eq}
 use Rattle.verdict.proofs.Bools.{clash, test, same_test, and_true}
 use Rattle.letters.specs.Class.{within, name_byte}
 use Rattle.text.specs.Scan.{run}
 use Rattle.names.specs.Name.{same, is_name, same_name}
 use Rattle.letters.specs.Case.{lower, lowered}
 use Rattle.letters.proofs.CaseLaws.{name_lower, name_raised, length_lowered, lowered_at, lowered_again}
-use Rattle.text.proofs.RunLaws.{run_at, run_of}
+use Rattle.text.proofs.RunLaws.{run_at, run_of, all_is_whole}
 
 -- ---- the same bytes
 
@@ -42,6 +44,14 @@ same_turn a b i h k = rw (drop-cons a i 0 h, drop-cons b i 0 k, add-one)
 pub same_end : (a b : List ℕ) (i : ℕ) → length a ≤ i → length b ≤ i → same (drop i a) (drop i b) ≡ true
 unfolding same
 same_end a b i h k = rw (drop_of_length-le a h, drop_of_length-le b k)
+
+-- as `==` says it
+pub same_is_eq : (s t : List ℕ) → bytes_eq s t ≡ same s t
+unfolding same
+same_is_eq [] [] = refl
+same_is_eq [] (b ∷ t) = refl
+same_is_eq (a ∷ s) [] = refl
+same_is_eq (a ∷ s) (b ∷ t) = rw (same_is_eq s t)
 
 -- ---- a name
 
@@ -71,9 +81,9 @@ pub name_not : (w : List ℕ) → within 1 16 (length w) ≡ false → false ≡
 unfolding is_name
 name_not w h = rw h
 
-pub name_by : (w : List ℕ) (r : ℕ) → within 1 16 (length w) ≡ true → r ≡ run name_byte w → eqb r (length w) ≡ is_name w
+pub name_by : (w : List ℕ) (r : Bool) → within 1 16 (length w) ≡ true → r ≡ list_all name_byte w → r ≡ is_name w
 unfolding is_name
-name_by w r h e = rw (h, e)
+name_by w r h e = e ∙ rw (h, all_is_whole name_byte w)
 
 -- a name in lower case is a name
 pub name_lowered : (w : List ℕ) → is_name w ≡ true → is_name (lowered w) ≡ true
@@ -113,7 +123,6 @@ same_name_sym a b =
     same_test (same (lowered a) (lowered b)) (same (lowered b) (lowered a))
     (λ e. rw (same_true (lowered a) (lowered b) e) (same_refl (lowered b))) (λ e. rw (same_true (lowered b) (lowered a) e) (same_refl (lowered a)))
 
--- for a cursor
 pub same_name_unlike : (a b : List ℕ) → (length a ≡ length b → ⊥) → same_name a b ≡ false
 unfolding same_name
 same_name_unlike a b h = same_unlike (lowered a) (lowered b) (λ e. h (sym (length_lowered a) ∙ e ∙ length_lowered b))
@@ -125,3 +134,11 @@ same_name_turn a b i h k = rw (drop-cons a i 0 h, drop-cons b i 0 k, add-one)
 pub same_name_end : (a b : List ℕ) (i : ℕ) → length a ≤ i → length b ≤ i → same_name (drop i a) (drop i b) ≡ true
 unfolding same_name same lowered
 same_name_end a b i h k = rw (drop_of_length-le a h, drop_of_length-le b k)
+
+-- names of one length are the same where the bytes in each place are
+pub same_name_pairs : (a b : List ℕ) → length a ≡ length b → list_all (λ (p : ℕ × ℕ). eqb (lower p.0) (lower p.1)) (zip a b) ≡ same_name a b
+unfolding same_name same lowered
+same_name_pairs [] [] e = refl
+same_name_pairs [] (y ∷ b) e = absurd (omega arith)
+same_name_pairs (x ∷ a) [] e = absurd (omega arith)
+same_name_pairs (x ∷ a) (y ∷ b) e = rw (same_name_pairs a b (omega arith))

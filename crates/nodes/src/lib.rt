@@ -2,13 +2,13 @@
 #![tactic(auto)]
 
 ghost use Rattle.std.specs.Prelude.{◌≡◌, ◌*◌, ◌-◌, ◌<◌, ◌≤◌};
-ghost use Rattle.verdict.specs.Lowest.{lowest};
-ghost use Rattle.verdict.specs.Verdict.{◌then◌};
+ghost use Rattle.verdict.specs.Lowest.{first};
+ghost use Rattle.verdict.specs.Refusals.{verdict_of};
 ghost use Rattle.tables.specs.Header.{RightHeader};
 ghost use Rattle.tables.specs.Parts.{parts_of};
-ghost use Rattle.nodes.specs.Nodes.{face_of, plane_of, left_of, right_of, nodes_of, is_plane, is_leaf, is_inner, neither, stray_root, rules11to12};
+ghost use Rattle.nodes.specs.Nodes.{face_of, plane_of, left_of, right_of, nodes_of, is_plane, is_leaf, is_inner, neither, stray_root, rule11, rules11to12};
 
-use verdict::Answer;
+use verdict::{Refusal, Verdict, refuse_at, refuse_if};
 
 // No face, no child.
 const NONE: usize = wire::NONE as usize;
@@ -59,6 +59,7 @@ pub fn right_of(bytes: &[u8], n: usize) -> usize
 }
 
 // Whether a node has no face, so that it is to be inner.
+#[tactic(auto, unfolding(crate::specs::Nodes::nodes_of))]
 pub fn is_inner_node(bytes: &[u8], n: usize) -> bool
     requires { RightHeader bytes.now × (n < (parts_of bytes.now).nodes) }
     ensures { result ≡ (nodes_of (parts_of bytes.now)).inner n }
@@ -67,6 +68,7 @@ pub fn is_inner_node(bytes: &[u8], n: usize) -> bool
 }
 
 // 1, 2, 3 or -1, -2, -3 as 32 bits.
+#[tactic(auto, using(verdict::proofs::Bools::and_yes), unfolding(crate::specs::Nodes::is_plane))]
 fn is_plane(w: u32) -> bool
     ensures { result ≡ is_plane w }
 {
@@ -79,6 +81,7 @@ fn is_plane(w: u32) -> bool
     0xFFFF_FFFD <= w
 }
 
+#[tactic(auto, using(verdict::proofs::Bools::and_no), unfolding(crate::specs::Nodes::is_leaf))]
 fn is_leaf(bytes: &[u8], n: usize) -> bool
     requires { RightHeader bytes.now × (n < (parts_of bytes.now).nodes) }
     ensures { result ≡ is_leaf (parts_of bytes.now) n }
@@ -95,6 +98,7 @@ fn is_leaf(bytes: &[u8], n: usize) -> bool
     right_of(bytes, n) == NONE
 }
 
+#[tactic(auto, using(verdict::proofs::Bools::and_no), unfolding(crate::specs::Nodes::is_inner))]
 fn is_inner(bytes: &[u8], n: usize) -> bool
     requires { RightHeader bytes.now × (n < (parts_of bytes.now).nodes) }
     ensures { result ≡ is_inner (parts_of bytes.now) n }
@@ -112,6 +116,7 @@ fn is_inner(bytes: &[u8], n: usize) -> bool
     right_of(bytes, n) < nodes
 }
 
+#[tactic(auto, unfolding(crate::specs::Nodes::neither))]
 fn is_neither(bytes: &[u8], n: usize) -> bool
     requires { RightHeader bytes.now × (n < (parts_of bytes.now).nodes) }
     ensures { result ≡ neither (parts_of bytes.now) n }
@@ -122,20 +127,12 @@ fn is_neither(bytes: &[u8], n: usize) -> bool
     !is_inner(bytes, n)
 }
 
-// The lowest node that is neither leaf nor inner, or the node count.
-fn first_neither(bytes: &[u8]) -> usize
+// The lowest node that is neither leaf nor inner.
+fn first_neither(bytes: &[u8]) -> Option<usize>
     requires { RightHeader bytes.now }
-    ensures { (result ≡ lowest (parts_of bytes.now).nodes (neither (parts_of bytes.now))) × (result ≤ 8191) }
+    ensures { result ≡ first (parts_of bytes.now).nodes (neither (parts_of bytes.now)) }
 {
-    let nodes = node_count(bytes);
-    let mut n = 0;
-    while n < nodes {
-        if is_neither(bytes, n) {
-            return n;
-        }
-        n += 1;
-    }
-    nodes
+    (0..node_count(bytes)).find(|n| is_neither(bytes, *n))
 }
 
 // How many nodes so many faces have: one less than twice as many, none for none.
@@ -150,6 +147,7 @@ pub fn nodes_for(faces: usize) -> usize
 }
 
 // Whether there are nodes, and the root is none of them.
+#[tactic(auto, using(crate::proofs::Rule12::root_of_none, crate::proofs::Rule12::root_of_some))]
 fn is_root_stray(bytes: &[u8]) -> bool
     requires { RightHeader bytes.now }
     ensures { result ≡ stray_root (parts_of bytes.now) }
@@ -162,15 +160,23 @@ fn is_root_stray(bytes: &[u8]) -> bool
     false
 }
 
-// 11 and 12, after what was found so far.
-pub fn then_nodes(so: Answer, bytes: &[u8]) -> Answer
+// 11
+#[tactic(auto, using(verdict::proofs::Results::here, verdict::proofs::Results::past), unfolding(crate::specs::Nodes::rule11))]
+fn count_verdict(bytes: &[u8]) -> Verdict
     requires { RightHeader bytes.now }
-    ensures { result ≡ (so then rules11to12 (parts_of bytes.now)) }
+    ensures { verdict_of result ≡ rule11 (parts_of bytes.now) }
 {
-    let nodes = node_count(bytes);
     let right = nodes_for(face_count(bytes));
-    let a = verdict::then_rule(so, 11, nodes != right, 100);
-    let b = verdict::then_rule(a, 11, is_root_stray(bytes), 108);
-    let n = first_neither(bytes);
-    verdict::then_rule(b, 12, n < nodes, n as u32)
+    refuse_if(node_count(bytes) != right, Refusal::NodeCount, 100)?;
+    refuse_if(is_root_stray(bytes), Refusal::NodeCount, 108)
+}
+
+// 11 and 12
+#[tactic(auto, using(verdict::proofs::Results::here, verdict::proofs::Results::past, verdict::proofs::Results::each_by_first), unfolding(crate::specs::Nodes::rules11to12, crate::specs::Nodes::rule12))]
+pub fn nodes_verdict(bytes: &[u8]) -> Verdict
+    requires { RightHeader bytes.now }
+    ensures { verdict_of result ≡ rules11to12 (parts_of bytes.now) }
+{
+    count_verdict(bytes)?;
+    refuse_at(first_neither(bytes), Refusal::NodeKind)
 }

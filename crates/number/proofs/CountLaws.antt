@@ -55,11 +55,6 @@ unfolding is_count count
 count_letters w r e n = rw (ne_eqb (run is_digit w) (length w) (λ z. n (e ∙ zero-add (run is_digit w) ∙ z)), and_no (within 1 2 (length w)))
 
 module _ (w : List ℕ) (r : ℕ) (h : within 1 2 (length w) ≡ true) (e : r ≡ 0 + count w 0) (n : r ≡ length w) where
-  pub count_asked : (length w ≡ count w 0) × (length w ≤ 6)
-  count_asked =
-      let k = and_true (leb 1 (length w)) (leb (length w) 2) h in
-      (omega arith, omega (arith, leb-true (length w) 2 k.1))
-
   pub count_by : (v : ℕ) → v ≡ says w 0 → leb v 64 ≡ is_count w
   unfolding is_count count says
   count_by v f =

@@ -8,8 +8,8 @@ use lib.Pow.{pow-add}
 use native.Mathlib.Numerals.{add-one}
 use native.Mathlib.Omega.{arith}
 use lib.Dec.{eqb, leb, ltb}
-use lib.ListN.{length, get_or, take, drop, length-drop, length-append}
-use lib.Seq.{take-suc, get_or-drop}
+use lib.ListN.{length, get_or, take, drop, length-append}
+use lib.Seq.{take-suc, length-take-le}
 use borrow.Author.Tests.{leb-true, ltb-true, ltb-false, lt-ltb}
 use Rattle.number.specs.declared.Num.{Num}
 use Rattle.letters.specs.Class.{class_of, is_digit, within}
@@ -19,7 +19,7 @@ use Rattle.number.specs.Number.{count, says, fixed, width, plain, fraction, sign
 use Rattle.verdict.specs.Lowest.{lowest, any_under, all_under}
 use Rattle.verdict.proofs.Lowest.{all_true}
 use Rattle.verdict.proofs.Bools.{and_true, clash}
-use Rattle.text.proofs.RunLaws.{run_nil, run_cons_on, run_cons_off, run_le, run_at}
+use Rattle.text.proofs.RunLaws.{run_nil, run_cons_on, run_cons_off, run_le, run_at, run_take}
 
 -- a test that passes at each of the ten digits, by computing it
 pub digits_all : (p : ℕ → Bool) → all_under 10 (λ k. p (48 + k)) ≡ true → (d : ℕ) → d < 10 → p (48 + d) ≡ true
@@ -71,27 +71,28 @@ small (b ∷ s) (suc i) n h = go (is_digit b) refl (small s i (n * 10 + (b - 48)
         rw (pow-suc 10 i) (omega arith)
     go false e k = absurd (not-suc-le-zero (rw (run_cons_off is_digit b s e) at h))
 
-module _ (w : List ℕ) (from n i : ℕ) (en : n ≡ count w from) (six : n ≤ 6) (h : i < n) where
-  inside : i < run is_digit (drop from w)
+-- digits read one after the other
+module _ (w s : List ℕ) (from n : ℕ) (es : s ≡ drop from w) (en : n ≡ count w from) where
+  pub said_long : length (take n s) ≡ n
   unfolding count
-  inside = rw en at h
+  said_long = rw (es, en) (length-take-le _ (drop from w) (run_le is_digit (drop from w)))
 
-  pub said_read : from + i < length w
-  said_read = omega (arith, inside, run_le is_digit (drop from w), length-drop from w)
+  digits_alone : run is_digit (take n s) ≡ length (take n s)
+  unfolding count
+  digits_alone = rw (es, en) (run_take is_digit (drop from w))
 
-  pub said_digit : (48 ≤ get_or w (from + i) 0) × (get_or w (from + i) 0 ≤ 57)
-  said_digit = digit_range _ (rw get_or-drop at (run_at is_digit (drop from w) i inside))
+  module _ (six : n ≤ 6) (i : ℕ) (h : i < length (take n s)) where
+    pub said_digit : (48 ≤ get_or (take n s) i 0) × (get_or (take n s) i 0 ≤ 57)
+    said_digit = digit_range _ (run_at is_digit (take n s) i (omega (arith, digits_alone)))
 
-  pub said_small : value 0 (take i (drop from w)) < 1000000
-  said_small =
-      let a = small (drop from w) i 0 (omega (arith, inside)) in
-      let b : 10 ^ i ≤ 10 ^ 6 = pow-le-pow_right {n = 10} (omega arith) {i = i} {j = 6} (omega arith) in
-      omega arith
+    pub said_small : value 0 (take i (take n s)) < 1000000
+    said_small =
+        let a = small (take n s) i 0 (omega (arith, digits_alone)) in
+        let b : 10 ^ i ≤ 10 ^ 6 = pow-le-pow_right {n = 10} (omega arith) {i = i} {j = 6} (omega (arith, said_long)) in
+        omega arith
 
-  pub said_more : value 0 (take (i + 1) (drop from w)) ≡ value 0 (take i (drop from w)) * 10 + (get_or w (from + i) 0 - 48)
-  said_more =
-      let k : i < length (drop from w) = omega (arith, inside, run_le is_digit (drop from w)) in
-      rw (add-one, take-suc (drop from w) i 0 k, value_snoc, get_or-drop)
+    pub said_more : value 0 (take (i + 1) (take n s)) ≡ value 0 (take i (take n s)) * 10 + (get_or (take n s) i 0 - 48)
+    said_more = rw (add-one, take-suc (take n s) i 0 h, value_snoc)
 
 pub pow_pos_of : (n k : ℕ) → 0 < n → 0 < n ^ k
 pow_pos_of n zero h = rw (pow-zero n) (omega arith)

@@ -6,7 +6,7 @@ use Prim.Native.Nat.{ℕ, suc, ◌+◌, ◌-◌, ◌*◌, ◌^◌, ◌≤◌, ze
 use native.Mathlib.Omega.{arith}
 use lib.Dec.{eqb, leb}
 use lib.ListN.{length, get_or, drop, length-drop}
-use borrow.Author.Tests.{leb-true, eqb-true, eq-eqb, ne_eqb}
+use borrow.Author.Tests.{leb-true, eqb-true}
 use Rattle.letters.specs.Class.{is_digit, within}
 use Rattle.number.specs.Number.{count, says, minus, right, some, none, number_of}
 use Rattle.text.proofs.RunLaws.{run_le}
@@ -39,26 +39,6 @@ right_bounds w e n m em r =
         let (z, _) = and_true (within 1 6 m) (eqb (e + 1 + m) (length w)) y in
         let (_, s) = and_true (leb 1 m) (leb m 6) z in
         leb-true m 6 s
-
--- the shape of a word, at the values that the code has in hand
-module _ (w : List ℕ) (e n m : ℕ) where
-  pub right_not : within 1 5 n ≡ false → false ≡ right w e n m
-  unfolding right
-  right_not f = rw f
-
-  module _ (few : within 1 5 n ≡ true) where
-    pub right_end : e ≡ length w → true ≡ right w e n m
-    unfolding right
-    right_end h = rw (few, eq-eqb e (length w) h)
-
-    module _ (more : e ≡ length w → ⊥) where
-      pub right_other : (get_or w e 0 ≡ 46 → ⊥) → false ≡ right w e n m
-      unfolding right
-      right_other h = rw (few, ne_eqb e (length w) more, ne_eqb (get_or w e 0) 46 h)
-
-      pub right_behind : get_or w e 0 ≡ 46 → (t : Bool) → within 1 6 m ≡ t → (t && eqb (e + 1 + m) (length w)) ≡ right w e n m
-      unfolding right
-      right_behind h t k = rw (few, ne_eqb e (length w) more, eq-eqb (get_or w e 0) 46 h, k)
 
 pub right_some : (w : List ℕ) (e n m : ℕ) → right w e n m ≡ true → 1 ≤ n
 unfolding right

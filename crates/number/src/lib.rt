@@ -6,6 +6,7 @@ ghost use Rattle.number.specs.Count.{value, is_count};
 ghost use Rattle.number.specs.Number.{number_of, count, says, some, none, minus, right};
 
 use letters::{is_digit, is_within};
+use text::rest;
 
 // A number: sign and magnitude in whole millionths, and how many digits stood after the point.
 #[derive(Clone, Copy)]
@@ -22,15 +23,7 @@ pub struct Num {
 fn digits(w: &[u8], at: usize) -> usize
     ensures { result ≡ at + count w.now at }
 {
-    let mut i = at;
-    while i < w.len() {
-        if is_digit(w[i]) {
-            i += 1;
-        } else {
-            return i;
-        }
-    }
-    i
+    at + rest(w, at).iter().take_while(|b| is_digit(**b)).count()
 }
 
 // What the n digits at `at` say.
@@ -38,11 +31,9 @@ fn said(w: &[u8], at: usize, n: usize) -> u64
     requires { (n ≡ count w.now at) × (n ≤ 6) }
     ensures { result ≡ says w.now at }
 {
-    let mut v: u64 = 0;
-    let mut i: usize = 0;
-    while i < n {
-        v = v * 10 + ((w[at + i] as u64) - 48);
-        i += 1;
+    let mut v = 0;
+    for b in &rest(w, at)[..n] {
+        v = v * 10 + (*b as u64 - 48);
     }
     v
 }
@@ -52,16 +43,11 @@ pub fn is_count(w: &[u8]) -> bool
     ensures { result ≡ is_count w.now }
 {
     let n = w.len();
-    if is_within(1, 2, n) {
-        if digits(w, 0) == n {
-            return said(w, 0, n) <= 64;
-        }
-        return false;
-    }
-    false
+    is_within(1, 2, n) && digits(w, 0) == n && said(w, 0, n) <= 64
 }
 
 // What a count says.
+#[tactic(auto, using(crate::proofs::CountLaws::count_run, crate::proofs::CountLaws::count_small, crate::proofs::CountLaws::count_says))]
 pub fn count_of(w: &[u8]) -> usize
     requires { is_count w.now ≡ true }
     ensures { result ≡ value 0 w.now }
@@ -72,25 +58,19 @@ pub fn count_of(w: &[u8]) -> usize
 // ---- numbers
 
 // What is kept of a number: minus zero loses its minus.
+#[tactic(auto, unfolding(crate::specs::Number::some))]
 fn kept(neg: bool, v: u64, m: usize) -> Num
     ensures { result ≡ some neg v m }
 {
-    if v == 0 {
-        return Num {
-            ok: true,
-            neg: false,
-            millionths: v,
-            places: m,
-        };
-    }
     Num {
         ok: true,
-        neg,
+        neg: v != 0 && neg,
         millionths: v,
         places: m,
     }
 }
 
+#[tactic(auto, unfolding(crate::specs::Number::none))]
 fn no_number() -> Num
     ensures { result ≡ none }
 {
@@ -113,18 +93,15 @@ pub fn scale(m: usize) -> u64
 }
 
 // 1 if the word starts with a minus, else 0.
+#[tactic(auto, unfolding(crate::specs::Number::minus))]
 fn minus_at(w: &[u8]) -> usize
     ensures { result ≡ minus w.now }
 {
-    if 0 < w.len() {
-        if w[0] == 45 {
-            return 1;
-        }
-    }
-    0
+    if 0 < w.len() && w[0] == 45 { 1 } else { 0 }
 }
 
 // The millionths of n digits at a and, behind the point at e, m digits.
+#[tactic(auto, using(crate::proofs::DigitLaws::whole_small, crate::proofs::DigitLaws::fraction_small))]
 fn joined(w: &[u8], a: usize, n: usize, e: usize, m: usize) -> u64
     requires { (n ≡ count w.now a) × ((n ≤ 5) × ((m ≡ count w.now (e + 1)) × ((m ≤ 6) × (e < 2 ^ 63)))) }
     ensures { result ≡ says w.now a * 1000000 + says w.now (e + 1) * 10 ^ (6 - m) }
@@ -133,26 +110,17 @@ fn joined(w: &[u8], a: usize, n: usize, e: usize, m: usize) -> u64
 }
 
 // The word is n digits that end at e, and no more, or a point and m digits to its end.
+#[tactic(auto, unfolding(crate::specs::Number::right))]
 fn shaped(w: &[u8], e: usize, n: usize, m: usize) -> bool
     requires { (e ≤ length w.now) × (e + 1 + m < 2 ^ 64) }
     ensures { result ≡ right w.now e n m }
 {
-    if is_within(1, 5, n) {
-        if e == w.len() {
-            return true;
-        }
-        if w[e] != 46 {
-            return false;
-        }
-        if is_within(1, 6, m) {
-            return e + 1 + m == w.len();
-        }
-        return false;
-    }
-    false
+    let end = w.len();
+    is_within(1, 5, n) && (e == end || w[e] == 46 && is_within(1, 6, m) && e + 1 + m == end)
 }
 
 // A number: an optional minus, 1 to 5 digits, optionally a point and 1 to 6 digits.
+#[tactic(auto, using(crate::proofs::NumberLaws::minus_le, crate::proofs::NumberLaws::count_le, crate::proofs::NumberLaws::right_bounds, crate::proofs::NumberLaws::number_by))]
 pub fn number(w: &[u8]) -> Num
     ensures { result ≡ number_of w.now }
 {

@@ -1,14 +1,15 @@
 -- Laws of half-edges in chains by their two ends, however many chains there are and however the ends are mixed: one half-edge more, and the
 -- walk along a chain to those that run from a to b. Assumes nothing.
-use Prim.Native.Nat.{ℕ, ◌+◌, ◌-◌, ◌<◌, ◌≤◌}
+use Prim.Native.Nat.{ℕ, ◌+◌, ◌<◌, ◌≤◌}
 use native.Mathlib.Omega.{arith}
 use mathlib.Core.Path.{◌≡◌}
 use mathlib.Core.Bool.{true, false}
 use mathlib.Core.List.{List}
+use Rattle.std.specs.Prelude.{Option, Some}
 use lib.ListN.{length}
 use Rattle.verdict.specs.Memory.{work_size, past, SamePast}
 use Rattle.wire.specs.Bytes.{u16_at}
-use Rattle.chains.specs.Chains.{last_place, before_place, Chained, with_last}
+use Rattle.chains.specs.Chains.{one_more, last_place, before_place, Chained, with_last}
 use Rattle.chains.proofs.Chains.{drop_last, chained_as}
 use Rattle.chains.proofs.Walk.{Walk, walk_start, walk_step}
 use Rattle.tables.specs.Parts.{Parts}
@@ -42,5 +43,6 @@ module _ (n : ℕ) (mix : ℕ → ℕ → ℕ) (p : Parts) where
           let f = e.0 in
           walk_start n (ends_key mix p) (runs p a b) (mix a b) s w c same_chain g (omega (arith, e.1)) (rw f at q)
 
-      pub run_step : (g r : ℕ) → 0 < g → Run mix p a b s g → r ≡ u16_at w (before_place n (g - 1)) → runs p a b (g - 1) ≡ false → Run mix p a b s r × (r < g)
-      run_step g r m i q ne = walk_step n (ends_key mix p) (runs p a b) (mix a b) s w c same_chain g r m i q ne
+      pub run_step : (o : Option ℕ) (h r : ℕ) → o ≡ Some h → Run mix p a b s (one_more o) → r ≡ u16_at w (before_place n h) → runs p a b h ≡ false
+          → Run mix p a b s r × (r < one_more o)
+      run_step o h r z i q ne = walk_step n (ends_key mix p) (runs p a b) (mix a b) s w c same_chain o h r z i q ne

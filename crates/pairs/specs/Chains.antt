@@ -1,6 +1,7 @@
 -- The half-edges' chains, which stand in the work memory: what a search for those from one vertex to another goes by, and so does not look
 -- at all half-edges. No rule speaks of chains. Definitions only.
-use Rattle.std.specs.Prelude.{ℕ, ◌+◌, ◌*◌, ◌%◌}
+use Rattle.std.specs.Prelude.{ℕ}
+use Rattle.chains.specs.Chains.{mixed}
 use Rattle.tables.specs.Parts.{Parts}
 use Rattle.pairs.specs.Halves.{from, to}
 
@@ -8,13 +9,9 @@ use Rattle.pairs.specs.Halves.{from, to}
 abbrev pub chains : ℕ
 chains = 16384
 
--- by how many chains the next end moves a half-edge on; any number is right, this one keeps the chains short
-abbrev pub stride : ℕ
-stride = 517
-
 -- the chain of the half-edges from vertex a to vertex b; both ends count, so that those around one vertex stand in many chains
-unfoldable pub chain_of : ℕ → ℕ → ℕ
-chain_of a b = (a + stride * b) % chains
+abbrev pub chain_of : ℕ → ℕ → ℕ
+chain_of = mixed chains
 
 -- a half-edge's key by its two ends, and so the chain of half-edge h
 abbrev pub ends_key : (ℕ → ℕ → ℕ) → Parts → ℕ → ℕ

@@ -2,23 +2,23 @@
 #![tactic(auto)]
 
 ghost use Rattle.std.specs.Prelude.{◌≡◌, ◌+◌, ◌/◌, ◌%◌, ◌<◌, ◌≤◌, length};
-ghost use Rattle.verdict.specs.Lowest.{lowest, any_under};
+ghost use Rattle.verdict.specs.Lowest.{lowest, any_under, first};
+ghost use Rattle.verdict.specs.Refusals.{verdict_of};
 ghost use Rattle.verdict.specs.Memory.{work_size, SamePast};
 ghost use Rattle.chains.specs.Chains.{Chained};
 ghost use Rattle.tables.specs.Header.{RightHeader};
 ghost use Rattle.tables.specs.Parts.{parts_of, adjacent_to};
 ghost use Rattle.pairs.specs.Halves.{halves, from, to, runs, repeats, border, wrong_adjacent, rule15, rules15to16, RightPairs};
 ghost use Rattle.pairs.specs.Plain.{Apart};
-ghost use Rattle.pairs.specs.Chains.{chains, chain_of, chain};
+ghost use Rattle.pairs.specs.Chains.{chains, chain};
 
-use verdict::Answer;
+use verdict::{Refusal, Verdict, refuse_at};
 
 // How many chains of half-edges stand in the work memory.
 const CHAINS: usize = 16384;
-// By how many chains the next end moves a half-edge on. Any number gives the same answers; this one keeps the chains short.
-const STRIDE: usize = 517;
 
 // The number of half-edges of walkable faces.
+#[tactic(auto, using(crate::proofs::Halves::few_walkable))]
 pub fn halves_of(bytes: &[u8]) -> usize
     requires { RightHeader bytes.now }
     ensures { (result ≡ halves (parts_of bytes.now)) × (result ≤ 12288) }
@@ -46,6 +46,7 @@ fn next_in_face(h: usize) -> usize
 }
 
 // The vertex where half-edge h ends: there the next one starts.
+#[tactic(auto, using(crate::proofs::Halves::few_walkable, crate::proofs::Halves::next_starts))]
 pub fn to_of(bytes: &[u8], h: usize) -> usize
     requires { RightHeader bytes.now × (h < halves (parts_of bytes.now)) }
     ensures { (result ≡ to (parts_of bytes.now) h) × (result < 4294967296) }
@@ -54,6 +55,7 @@ pub fn to_of(bytes: &[u8], h: usize) -> usize
 }
 
 // Adjacency entry h.
+#[tactic(auto, using(crate::proofs::Halves::adjacent_word))]
 fn adjacent_of(bytes: &[u8], h: usize) -> u32
     requires { RightHeader bytes.now × (h < halves (parts_of bytes.now)) }
     ensures { result ≡ adjacent_to (parts_of bytes.now) h }
@@ -62,6 +64,7 @@ fn adjacent_of(bytes: &[u8], h: usize) -> u32
 }
 
 // Whether half-edge h runs from vertex a to vertex b.
+#[tactic(auto, unfolding(crate::specs::Halves::runs))]
 fn runs_so(bytes: &[u8], a: usize, b: usize, h: usize) -> bool
     requires { RightHeader bytes.now × (h < halves (parts_of bytes.now)) }
     ensures { result ≡ runs (parts_of bytes.now) a b h }
@@ -72,53 +75,44 @@ fn runs_so(bytes: &[u8], a: usize, b: usize, h: usize) -> bool
     false
 }
 
-// The chain of the half-edges from vertex a to vertex b.
-fn chain_of(a: usize, b: usize) -> usize
-    requires { (a < 4294967296) × (b < 4294967296) }
-    ensures { (result ≡ chain_of a b) × (result < chains) }
-{
-    (a + STRIDE * b) % CHAINS
-}
-
 // Whether a half-edge under s runs from vertex a to vertex b. No others are chained, so s is named for the promise alone.
 fn is_run(bytes: &[u8], work: &[u8], s: usize, a: usize, b: usize) -> bool
     requires right_header { RightHeader bytes.now × (s ≤ halves (parts_of bytes.now)) × (a < 4294967296) × (b < 4294967296) }
     requires chained { (work_size ≤ length work.now) × Chained chains (chain (parts_of bytes.now)) work.now s }
     ensures { result ≡ any_under s (runs (parts_of bytes.now) a b) }
 {
-    let mut g = chains::last_of(work, chain_of(a, b));
-    while 0 < g {
-        if runs_so(bytes, a, b, g - 1) {
+    let mut next = chains::last_of(work, chains::mixed::<CHAINS>(a, b));
+    // No count: a chain is followed from its last number back, until it ends.
+    while let Some(g) = next {
+        if runs_so(bytes, a, b, g) {
             return true;
         }
-        g = chains::before_of(work, CHAINS, g - 1);
+        next = chains::before_of(work, CHAINS, g);
     }
     false
 }
 
 // Chains the half-edges one by one, up to the first that runs as a lower one.
-fn first_repeat(bytes: &[u8], work: &mut [u8]) -> usize
+fn first_repeat(bytes: &[u8], work: &mut [u8]) -> Option<usize>
     requires { RightHeader bytes.now × (work_size ≤ length work.old) }
-    ensures answer { result ≡ lowest (halves (parts_of bytes.now)) (repeats (parts_of bytes.now)) }
-    ensures memory { Chained chains (chain (parts_of bytes.now)) work.new result × SamePast work.new work.old }
+    ensures answer { result ≡ first (halves (parts_of bytes.now)) (repeats (parts_of bytes.now)) }
+    ensures memory { Chained chains (chain (parts_of bytes.now)) work.new (lowest (halves (parts_of bytes.now)) (repeats (parts_of bytes.now))) × SamePast work.new work.old }
 {
-    let n = halves_of(bytes);
     verdict::clear_to(work, 2 * CHAINS);
-    let mut h = 0;
-    while h < n {
+    for h in 0..halves_of(bytes) {
         let a = from_of(bytes, h);
         let b = to_of(bytes, h);
         if is_run(bytes, work, h, a, b) {
-            return h;
+            return Some(h);
         }
-        chains::put_last(work, CHAINS, chain_of(a, b), h);
-        h += 1;
+        chains::put_last(work, CHAINS, chains::mixed::<CHAINS>(a, b), h);
     }
-    n
+    None
 }
 
 // Whether adjacency entry h is wrong, where 15 is unbroken: a half-edge that it names is the partner if it runs the opposite way, for no other
 // does; only for -1 is a partner looked for.
+#[tactic(auto, using(crate::proofs::Halves::few_walkable, crate::proofs::Claims::claims_none, crate::proofs::Claims::claims_half, crate::proofs::Claims::claims_more))]
 fn wrong_adjacent(bytes: &[u8], work: &[u8], h: usize) -> bool
     requires right_header { RightHeader bytes.now × (h < halves (parts_of bytes.now)) × Apart (parts_of bytes.now) }
     requires chained { (work_size ≤ length work.now) × Chained chains (chain (parts_of bytes.now)) work.now (halves (parts_of bytes.now)) }
@@ -138,49 +132,38 @@ fn wrong_adjacent(bytes: &[u8], work: &[u8], h: usize) -> bool
     true
 }
 
-fn first_wrong_adjacent(bytes: &[u8], work: &[u8]) -> usize
+fn first_wrong_adjacent(bytes: &[u8], work: &[u8]) -> Option<usize>
     requires right_header { RightHeader bytes.now × Apart (parts_of bytes.now) }
     requires chained { (work_size ≤ length work.now) × Chained chains (chain (parts_of bytes.now)) work.now (halves (parts_of bytes.now)) }
-    ensures { result ≡ lowest (halves (parts_of bytes.now)) (wrong_adjacent (parts_of bytes.now)) }
+    ensures { result ≡ first (halves (parts_of bytes.now)) (wrong_adjacent (parts_of bytes.now)) }
 {
-    let n = halves_of(bytes);
-    let mut h = 0;
-    while h < n {
-        if wrong_adjacent(bytes, work, h) {
-            return h;
-        }
-        h += 1;
-    }
-    n
+    (0..halves_of(bytes)).find(|h| wrong_adjacent(bytes, work, *h))
 }
 
 // Rule 15.
-pub fn runs_verdict(bytes: &[u8], work: &mut [u8]) -> Answer
+#[tactic(auto, using(verdict::proofs::Results::each_by_first), unfolding(crate::specs::Halves::rule15))]
+pub fn runs_verdict(bytes: &[u8], work: &mut [u8]) -> Verdict
     requires { RightHeader bytes.now × (work_size ≤ length work.old) }
-    ensures answer { result ≡ rule15 (parts_of bytes.now) }
+    ensures answer { verdict_of result ≡ rule15 (parts_of bytes.now) }
     ensures memory { SamePast work.new work.old }
 {
-    let n = halves_of(bytes);
-    let twice = first_repeat(bytes, work);
-    verdict::first_rule(15, twice < n, twice as u32)
+    let repeat = first_repeat(bytes, work);
+    refuse_at(repeat, Refusal::RunsTwice)
 }
 
 // Rules 15 and 16.
-pub fn pairs_verdict(bytes: &[u8], work: &mut [u8]) -> Answer
+#[tactic(auto, using(verdict::proofs::Results::here, verdict::proofs::Results::past, verdict::proofs::Results::each_by_first), unfolding(crate::specs::Halves::rules15to16, crate::specs::Halves::rule15, crate::specs::Halves::rule16))]
+pub fn pairs_verdict(bytes: &[u8], work: &mut [u8]) -> Verdict
     requires { RightHeader bytes.now × (work_size ≤ length work.old) }
-    ensures answer { result ≡ rules15to16 (parts_of bytes.now) }
+    ensures answer { verdict_of result ≡ rules15to16 (parts_of bytes.now) }
     ensures memory { SamePast work.new work.old }
 {
-    let n = halves_of(bytes);
-    let twice = first_repeat(bytes, work);
-    if twice < n {
-        return verdict::first_rule(15, true, twice as u32);
-    }
-    let wrong = first_wrong_adjacent(bytes, work);
-    verdict::first_rule(16, wrong < n, wrong as u32)
+    refuse_at(first_repeat(bytes, work), Refusal::RunsTwice)?;
+    refuse_at(first_wrong_adjacent(bytes, work), Refusal::Adjacency)
 }
 
 // Whether half-edge h is a border: where 15 and 16 are unbroken the adjacency entry says so.
+#[tactic(auto, using(crate::proofs::Halves::few_walkable, crate::proofs::Halves::border_read, crate::proofs::Halves::border_out))]
 pub fn is_border(bytes: &[u8], h: usize) -> bool
     requires { RightHeader bytes.now × RightPairs (parts_of bytes.now) }
     ensures { result ≡ border (parts_of bytes.now) h }

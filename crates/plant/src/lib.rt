@@ -4,6 +4,7 @@
 ghost use Rattle.std.specs.Prelude.{◌≡◌, ◌+◌, ◌*◌, ◌<◌, ◌≤◌, length};
 ghost use Rattle.verdict.specs.Memory.{work_size, SamePast};
 ghost use Rattle.verdict.specs.Output.{over, form_answer, form_memory};
+ghost use Rattle.verdict.specs.Refusals.{verdict_of, told_form};
 ghost use Rattle.wire.specs.Bytes.{put};
 ghost use Rattle.wire.specs.Words.{bytes_of};
 ghost use Rattle.tables.specs.Header.{RightHeader};
@@ -16,7 +17,7 @@ ghost use Rattle.planting.specs.Planting.{planted};
 ghost use Rattle.plant.specs.Plant.{planted_form, rule40, bare_verdict, plant_answer, plant_output};
 
 use fixed::Numbers;
-use verdict::{Answer, Form};
+use verdict::{Form, Refusal, Refused, Verdict, refuse_if};
 
 // The table of nodes, and the header's field of their count.
 const NODES: usize = 5;
@@ -24,21 +25,19 @@ const NODES: usize = 5;
 const NODE_COUNT_FIELD: u32 = 100;
 
 // Rules 1 to 10, then 49, then 15 to 19, with work memory enough.
-fn bare_verdict(bytes: &[u8], work: &mut [u8]) -> Answer
+#[tactic(auto, using(verdict::proofs::Results::here, verdict::proofs::Results::past), unfolding(crate::specs::Plant::bare_verdict, crate::specs::Plant::rule49))]
+fn bare_verdict(bytes: &[u8], work: &mut [u8]) -> Verdict
     requires { work_size ≤ length work.old }
-    ensures answer { result ≡ bare_verdict bytes.now }
+    ensures answer { verdict_of result ≡ bare_verdict bytes.now }
     ensures memory { SamePast work.new work.old }
 {
-    let header = header::header_verdict(bytes);
-    if header.number != 0 {
-        return header;
-    }
-    let mesh = mesh::mesh_verdict(bytes);
-    let nodes = nodes::node_count(bytes);
-    let bare = verdict::then_rule(mesh, 49, nodes != 0, NODE_COUNT_FIELD);
-    if bare.number != 0 {
-        return bare;
-    }
+    header::header_verdict(bytes)?;
+    mesh::mesh_verdict(bytes)?;
+    refuse_if(
+        nodes::node_count(bytes) != 0,
+        Refusal::HasTree,
+        NODE_COUNT_FIELD,
+    )?;
     floor::borders_verdict(bytes, work)
 }
 
@@ -80,30 +79,45 @@ fn write_planted(bytes: &[u8], n: Numbers, out: &mut [u8])
 {
     fixed::write_head(bytes, n, out);
     let mut at = 136;
-    let mut k = 0;
-    while k < 9 {
+    for k in 0..9 {
         at = put_table(bytes, k, out, at);
-        k += 1;
     }
 }
 
-// A floor whose rules are met: 40, or the form.
-fn write_out(bytes: &[u8], out: &mut [u8]) -> Form
+// A floor whose rules are met: 40, or the form written: how many bytes.
+fn write_out(bytes: &[u8], out: &mut [u8]) -> Result<u32, Refused>
     requires { RightHeader bytes.now × Meshed (parts_of bytes.now) }
-    ensures answer { result ≡ form_answer (rule40 bytes.now (length out.old)) (planted_form bytes.now) }
+    ensures answer { told_form result ≡ form_answer (rule40 bytes.now (length out.old)) (planted_form bytes.now) }
     ensures output { out.new ≡ form_memory (rule40 bytes.now (length out.old)) (planted_form bytes.now) out.old }
 {
     let n = planted_numbers(bytes);
     let length = fixed::start_by(n, 9);
     if out.len() < length {
-        return verdict::refused_form(40, 0);
+        return Err(Refused {
+            refusal: Refusal::OutputShort,
+            place: 0,
+        });
     }
     write_planted(bytes, n, out);
-    Form {
-        number: 0,
-        place: 0,
-        length: length as u32,
+    Ok(length as u32)
+}
+
+// The refusals in order, or the form written: how many bytes.
+fn written(bytes: &[u8], work: &mut [u8], out: &mut [u8]) -> Result<u32, Refused>
+    ensures answer { told_form result ≡ plant_answer bytes.now (length work.old) (length out.old) }
+    ensures memory { work.new ≡ reader_memory work.old }
+    ensures output { out.new ≡ plant_output bytes.now (length work.old) out.old }
+{
+    if work.len() < verdict::WORK_SIZE {
+        return Err(Refused {
+            refusal: Refusal::WorkMemory,
+            place: 0,
+        });
     }
+    let so = bare_verdict(bytes, work);
+    verdict::clear_to(work, verdict::WORK_SIZE);
+    so?;
+    write_out(bytes, out)
 }
 
 // The call: any bytes, any work memory, any output. Of the output nothing is changed on refusal, and nothing past the form.
@@ -112,13 +126,5 @@ pub fn plant(bytes: &[u8], work: &mut [u8], out: &mut [u8]) -> Form
     ensures memory { work.new ≡ reader_memory work.old }
     ensures output { out.new ≡ plant_output bytes.now (length work.old) out.old }
 {
-    if work.len() < verdict::WORK_SIZE {
-        return verdict::refused_form(20, 0);
-    }
-    let so = bare_verdict(bytes, work);
-    verdict::clear_to(work, verdict::WORK_SIZE);
-    if so.number != 0 {
-        return verdict::refused_form(so.number, so.place);
-    }
-    write_out(bytes, out)
+    Form::from(written(bytes, work, out))
 }

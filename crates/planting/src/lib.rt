@@ -21,6 +21,7 @@ const UNKNOWN: u32 = 4;
 const NODE: usize = 44;
 
 // The lesser and the greater of two floats.
+#[tactic(auto, unfolding(crate::specs::Boxes::lesser))]
 fn lesser_of(x: f32, y: f32) -> f32
     ensures { result ≡ lesser x y }
 {
@@ -30,6 +31,7 @@ fn lesser_of(x: f32, y: f32) -> f32
     y
 }
 
+#[tactic(auto, unfolding(crate::specs::Boxes::greater))]
 fn greater_of(x: f32, y: f32) -> f32
     ensures { result ≡ greater x y }
 {
@@ -40,6 +42,7 @@ fn greater_of(x: f32, y: f32) -> f32
 }
 
 // The tight box around two.
+#[tactic(auto, unfolding(crate::specs::Boxes::around))]
 fn around_both(a: Box, b: Box) -> Box
     ensures { result ≡ around a b }
 {
@@ -60,6 +63,7 @@ fn around_both(a: Box, b: Box) -> Box
 }
 
 // Coordinate c of vertex v, negative zero written as zero.
+#[tactic(auto, using(tree::proofs::Held::vertex_finite, crate::proofs::Order::plain_finite))]
 fn coordinate(bytes: &[u8], v: usize, c: usize) -> f32
     requires { Ready bytes.now × (v < (parts_of bytes.now).vertices) × (c < 3) }
     ensures { result ≡ coordinate_of (parts_of bytes.now) v c }
@@ -70,6 +74,7 @@ fn coordinate(bytes: &[u8], v: usize, c: usize) -> f32
 }
 
 // The box of vertex v.
+#[tactic(auto, unfolding(crate::specs::Boxes::point_box, crate::specs::Boxes::vertex_box))]
 fn vertex_box(bytes: &[u8], v: usize) -> Box
     requires { Ready bytes.now × (v < (parts_of bytes.now).vertices) }
     ensures { result ≡ vertex_box (parts_of bytes.now) v }
@@ -88,6 +93,7 @@ fn vertex_box(bytes: &[u8], v: usize) -> Box
 }
 
 // The box of face f.
+#[tactic(auto, unfolding(crate::specs::Boxes::face_box))]
 fn face_box(bytes: &[u8], f: usize) -> Box
     requires { Ready bytes.now × (f < (parts_of bytes.now).faces) }
     ensures { result ≡ face_box (parts_of bytes.now) f }
@@ -103,6 +109,7 @@ fn face_box(bytes: &[u8], f: usize) -> Box
 }
 
 // The axis of the longest of three sides, the first on a tie.
+#[tactic(auto, unfolding(crate::specs::Boxes::longest))]
 fn longest_of(x: f32, y: f32, z: f32) -> u32
     ensures { (result ≡ longest x y z) × (result ≤ 3) }
 {
@@ -116,6 +123,7 @@ fn longest_of(x: f32, y: f32, z: f32) -> u32
 }
 
 // The plane that cuts a box.
+#[tactic(auto, unfolding(crate::specs::Boxes::plane_for))]
 fn plane_of(b: Box) -> u32
     ensures { result ≡ plane_for b }
 {
@@ -127,6 +135,7 @@ fn plane_of(b: Box) -> u32
 }
 
 // Three floats, as words.
+#[tactic(auto, using(grid::proofs::Grid::finite_number, crate::proofs::Writing::three_words))]
 fn put_point(out: &mut [u8], place: usize, x: f32, y: f32, z: f32)
     requires { Good 0 x × Good 1 y × Good 2 z × (place + 12 ≤ length out.old) }
     ensures { out.new ≡ put out.old place (bytes_of (to_bits binary32 x ∷ to_bits binary32 y ∷ to_bits binary32 z ∷ [])) }
@@ -149,6 +158,7 @@ fn put_box(out: &mut [u8], place: usize, b: Box)
 }
 
 // The other five words of a node.
+#[tactic(auto, using(crate::proofs::Writing::five_words))]
 fn put_rest(out: &mut [u8], place: usize, face: u32, plane: u32, left: u32, right: u32)
     requires { place + 20 ≤ length out.old }
     ensures { out.new ≡ put out.old place (bytes_of (face ∷ 4 ∷ plane ∷ left ∷ right ∷ [])) }

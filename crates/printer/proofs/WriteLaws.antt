@@ -5,7 +5,7 @@ use Prim.Native.Nat.{ℕ, suc, ◌+◌, ◌*◌, ◌<◌, ◌≤◌}
 use native.Mathlib.Nat.{add-zero}
 use native.Mathlib.Omega.{arith}
 use lib.ListN.{length, take, drop, set, get_or, length-append}
-use lib.Seq.{take-suc, take_all, length-take-le}
+use lib.Seq.{take-suc, take_all}
 use native.Mathlib.Numerals.{add-one}
 use Rattle.wire.specs.Bytes.{put}
 use Rattle.wire.proofs.Put.{length_put, put_append, put_is}
@@ -32,9 +32,6 @@ wrote_byte l i b = record { next = refl; holds = refl }
 
 -- the bytes of a word, one by one
 module _ {a b : List ℕ} {at e : ℕ} (w : List ℕ) (i : ℕ) (p : Wrote a b at e (take i w)) (h : i < length w) where
-  pub wrote_at : e ≡ at + i
-  wrote_at = omega (arith, p.next, length-take-le i w (omega arith))
-
   pub wrote_more : {c : List ℕ} {k x : ℕ} → Wrote b c e k (x ∷ []) → x ≡ get_or w i 0 → Wrote a c at k (take (i + 1) w)
   wrote_more {c} {k} {x} q z = rw (add-one i, take-suc w i 0 h, ← z) (wrote_then p q)
 

@@ -12,6 +12,7 @@ use number::{Num, scale};
 // ---- bytes and words
 
 // One byte, if there is room for it.
+#[tactic(auto, unfolding(wire::specs::Bytes::put))]
 pub fn put_byte(out: &mut [u8], at: usize, b: u8) -> usize
     requires { at < 2 ^ 32 }
     ensures { Wrote out.old out.new at result (b ∷ []) }
@@ -30,10 +31,8 @@ pub fn put_word(out: &mut [u8], at: usize, w: &[u8]) -> usize
     ensures { Wrote out.old out.new at result w.now }
 {
     let mut e = at;
-    let mut i = 0;
-    while i < w.len() {
-        e = put_byte(out, e, w[i]);
-        i += 1;
+    for b in w {
+        e = put_byte(out, e, *b);
     }
     e
 }
@@ -44,10 +43,8 @@ pub fn put_lowered(out: &mut [u8], at: usize, w: &[u8]) -> usize
     ensures { Wrote out.old out.new at result (lowered w.now) }
 {
     let mut e = at;
-    let mut i = 0;
-    while i < w.len() {
-        e = put_byte(out, e, low(w[i]));
-        i += 1;
+    for b in w {
+        e = put_byte(out, e, low(*b));
     }
     e
 }
@@ -67,6 +64,7 @@ pub fn put_fixed(out: &mut [u8], at: usize, k: usize, v: u64) -> usize
 }
 
 // A minus, if there is one.
+#[tactic(auto, using(crate::proofs::WriteLaws::wrote_none))]
 fn put_minus(out: &mut [u8], at: usize, neg: bool) -> usize
     requires { at < 2 ^ 32 }
     ensures { Wrote out.old out.new at result (sign neg) }
@@ -78,6 +76,7 @@ fn put_minus(out: &mut [u8], at: usize, neg: bool) -> usize
 }
 
 // How many digits a number below 100,000 has.
+#[tactic(auto, unfolding(number::specs::Number::width))]
 fn width_of(v: u64) -> usize
     ensures { result ≡ width v }
 {
@@ -97,6 +96,7 @@ fn width_of(v: u64) -> usize
 }
 
 // A whole number with no needless leading zeros.
+#[tactic(auto, using(number::proofs::DigitLaws::width_is), unfolding(number::specs::Number::plain))]
 pub fn put_plain(out: &mut [u8], at: usize, v: u64) -> usize
     requires { at < 2 ^ 31 }
     ensures { Wrote out.old out.new at result (plain v) }

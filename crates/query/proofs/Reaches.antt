@@ -7,9 +7,9 @@ use borrow.Author.Tests.{le-leb}
 use mir.Syntax.{w32, w64}
 use mir.Val.{SFits, to_z, of_z}
 use mir.ValLaws.{to_z-of_z}
+use Rattle.std.specs.Prelude.{Option, Some, is_some}
 use Rattle.wire.specs.Signed.{Within}
 use Rattle.wire.proofs.Signed.{read, read_is, read_within, wider}
-use Rattle.grid.specs.declared.Scaled64.{Scaled64}
 use Rattle.grid.specs.Grid.{on_grid, scaled, within}
 use Rattle.grid.specs.Answers.{scaled_at}
 use Rattle.grid.proofs.Answers.{on_is, v_is, v_small}
@@ -51,17 +51,16 @@ module _ (p : Parts) (v : ℕ) where
   by_third a b t c = rw (a, b, c)
 
 -- what scaled_of says of a vertex's word
-pub coordinate_on : (p : Parts) (v e w : ℕ) (r : Scaled64) → w ≡ vertex_word p v e → r ≡ scaled_at w → r.on ≡ on_grid (vertex_float p v e)
-coordinate_on p v e w r a q = on_is w r q ∙ rw a
+pub coordinate_on : (p : Parts) (v e w : ℕ) (r : Option ℤ) → w ≡ vertex_word p v e → r ≡ scaled_at w → is_some r ≡ on_grid (vertex_float p v e)
+coordinate_on p v e w r a q = rw q (on_is w ∙ rw a)
 
 -- ---- a coordinate in sixty-fourths, as a local holds it
 
-module _ (p : Parts) (v e w : ℕ) (r : Scaled64) (q : w ≡ vertex_word p v e) (s : r ≡ scaled_at w) where
-  pub coordinate_is : on_grid (vertex_float p v e) ≡ true → read r.v ≡ scaled (vertex_float p v e)
-  coordinate_is on = read_is (v_small w r s) tt ∙ (v_is w r s (rw q on) ∙ rw q)
+pub coordinate_is : (p : Parts) (v e w : ℕ) (z : ℤ) → scaled_at w ≡ Some z → w ≡ vertex_word p v e → read z ≡ scaled (vertex_float p v e)
+coordinate_is p v e w z s q = read_is (v_small w z s) tt ∙ (v_is w z s ∙ rw q)
 
-  pub coordinate_small : Within 65536 (read r.v)
-  coordinate_small = read_within (v_small w r s) tt
+pub coordinate_small : (w : ℕ) (z : ℤ) → scaled_at w ≡ Some z → Within 65536 (read z)
+coordinate_small w z s = read_within (v_small w z s) tt
 
 -- that of a corner's vertex is the corner's
 pub corner_read : (p : Parts) (f c e v : ℕ) {z : ℤ} → v ≡ corner p f c → z ≡ scaled (vertex_float p v e) → Within 65536 z → read z ≡ corner_at p f c e
@@ -70,13 +69,12 @@ corner_read p f c e v a q small = read_is small tt ∙ q ∙ ap (λ (u : ℕ). s
 
 -- ---- a corner in sixty-fourths, as a local holds it
 
-module _ (p : Parts) (f c e v w : ℕ) (r : Scaled64) (a : v ≡ corner p f c) (q : w ≡ vertex_word p v e) (s : r ≡ scaled_at w) where
-  pub corner_is : on_grid (vertex_float p (corner p f c) e) ≡ true → read r.v ≡ corner_at p f c e
-  unfolding corner_at
-  corner_is on = read_is (v_small w r s) tt ∙ (v_is w r s (rw (q, a) on) ∙ rw (q, a))
+pub corner_is : (p : Parts) (f c e v w : ℕ) (z : ℤ) → v ≡ corner p f c → w ≡ vertex_word p v e → scaled_at w ≡ Some z → read z ≡ corner_at p f c e
+unfolding corner_at
+corner_is p f c e v w z a q s = coordinate_is p v e w z s q ∙ rw a
 
-pub corner_small : (w : ℕ) (r : Scaled64) → r ≡ scaled_at w → Within 65536 (read r.v)
-corner_small w r s = read_within (v_small w r s) tt
+pub corner_small : (w : ℕ) (z : ℤ) → scaled_at w ≡ Some z → Within 65536 (read z)
+corner_small = coordinate_small
 
 -- the triangle of a face, number by number
 pub triangle : (p : Parts) (x y : ℤ) (f : ℕ) {a b c d e g h i : ℤ}

@@ -2,8 +2,9 @@
 #![tactic(auto)]
 
 ghost use Rattle.std.specs.Prelude.{◌≡◌, ◌&&◌, ◌+◌, min, ◌<◌, ◌≤◌, length};
-ghost use Rattle.verdict.specs.Lowest.{lowest};
-ghost use Rattle.verdict.specs.Verdict.{accepted, ◌then◌};
+ghost use Rattle.verdict.specs.Lowest.{first};
+ghost use Rattle.verdict.specs.Verdict.{refused, accepted, ◌then◌};
+ghost use Rattle.verdict.specs.Refusals.{number_of, verdict_of};
 ghost use Rattle.wire.specs.Signed.{Within};
 ghost use Rattle.grid.specs.Grid.{on_grid, scaled, within};
 ghost use Rattle.tables.specs.Header.{RightHeader};
@@ -17,7 +18,7 @@ ghost use Rattle.floor.specs.Accepted.{Accepted};
 ghost use Rattle.query.specs.Rules.{rule29, off_grid, rule30};
 ghost use Rattle.query.specs.Points.{corner_at, face_holds, box_holds, reply_of, point_of, point_answer, Ready, Placed};
 
-use verdict::Answer;
+use verdict::{Refusal, Refused, Verdict, refuse_at, refuse_if};
 
 // What the query answers: a number, a place, whether a face was found, the face, and how many nodes were visited.
 #[repr(C)]
@@ -74,11 +75,11 @@ fn is_on_grid(bytes: &[u8], v: usize, e: usize) -> bool
     requires { RightHeader bytes.now × (v < (parts_of bytes.now).vertices) × (e < 3) }
     ensures { result ≡ on_grid (vertex_float (parts_of bytes.now) v e) }
 {
-    let z = grid::scaled_of(tables::word_of(bytes, 0, v, e));
-    z.on
+    grid::scaled_of(tables::word_of(bytes, 0, v, e)).is_some()
 }
 
 // Whether vertex v is off the grid.
+#[tactic(auto, using(crate::proofs::Reaches::off_first, crate::proofs::Reaches::off_second, crate::proofs::Reaches::by_third))]
 fn is_off_grid(bytes: &[u8], v: usize) -> bool
     requires { RightHeader bytes.now × (v < (parts_of bytes.now).vertices) }
     ensures { result ≡ off_grid (parts_of bytes.now) v }
@@ -92,32 +93,22 @@ fn is_off_grid(bytes: &[u8], v: usize) -> bool
     !is_on_grid(bytes, v, 2)
 }
 
-// The lowest vertex off the grid, or the number of vertices.
-fn first_off_grid(bytes: &[u8]) -> usize
+// The lowest vertex off the grid.
+fn first_off_grid(bytes: &[u8]) -> Option<usize>
     requires { RightHeader bytes.now }
-    ensures { result ≡ lowest (parts_of bytes.now).vertices (off_grid (parts_of bytes.now)) }
+    ensures { result ≡ first (parts_of bytes.now).vertices (off_grid (parts_of bytes.now)) }
 {
-    let vertices = tables::count_of(bytes, 0);
-    let mut v = 0;
-    while v < vertices {
-        if is_off_grid(bytes, v) {
-            return v;
-        }
-        v += 1;
-    }
-    vertices
+    (0..tables::count_of(bytes, 0)).find(|v| is_off_grid(bytes, *v))
 }
 
 // Rules 29 and 30.
-fn point_verdict(bytes: &[u8], x: i64, y: i64) -> Answer
+#[tactic(auto, using(verdict::proofs::Results::here, verdict::proofs::Results::past, verdict::proofs::Results::each_by_first), unfolding(crate::specs::Rules::rule29, crate::specs::Rules::rule30))]
+fn point_verdict(bytes: &[u8], x: i64, y: i64) -> Verdict
     requires { RightHeader bytes.now }
-    ensures { result ≡ (rule29 x y then rule30 (parts_of bytes.now)) }
+    ensures { verdict_of result ≡ (rule29 x y then rule30 (parts_of bytes.now)) }
 {
-    let near = is_in_reach(x, y);
-    let a = verdict::first_rule(29, !near, 0);
-    let vertices = tables::count_of(bytes, 0);
-    let v = first_off_grid(bytes);
-    verdict::then_rule(a, 30, v < vertices, v as u32)
+    refuse_if(!is_in_reach(x, y), Refusal::PointBeyond, 0)?;
+    refuse_at(first_off_grid(bytes), Refusal::VertexOffGrid)
 }
 
 // Coordinate e of vertex v, in sixty-fourths.
@@ -125,11 +116,11 @@ pub fn coordinate(bytes: &[u8], v: usize, e: usize) -> i64
     requires { Ready bytes.now × (v < (parts_of bytes.now).vertices) × (e < 3) }
     ensures { (result ≡ scaled (vertex_float (parts_of bytes.now) v e)) × Within 65536 result }
 {
-    let scaled = grid::scaled_of(tables::word_of(bytes, 0, v, e));
-    scaled.v
+    grid::scaled_of(tables::word_of(bytes, 0, v, e)).unwrap()
 }
 
 // Corner c of face f, seen from above.
+#[tactic(auto, using(wire::proofs::Signed::read_within, crate::proofs::Reaches::corner_read))]
 fn flat_corner(bytes: &[u8], f: usize, c: usize) -> Flat
     requires { Ready bytes.now × (f < (parts_of bytes.now).faces) × (c < 3) }
     ensures place { (result.x ≡ corner_at (parts_of bytes.now) f c 0) × (result.y ≡ corner_at (parts_of bytes.now) f c 1) }
@@ -153,6 +144,7 @@ fn face_holds(bytes: &[u8], at: Spot, f: usize) -> bool
 }
 
 // Whether the walk goes on below node n: an inner node whose box holds the point.
+#[tactic(auto, using(crate::proofs::Sights::stays, crate::proofs::Sights::goes))]
 fn goes_on(bytes: &[u8], at: Spot, n: usize) -> bool
     requires { Ready bytes.now × Placed at × (n < (parts_of bytes.now).nodes) }
     ensures { result ≡ (cut (nodes_of (parts_of bytes.now)) (box_holds (parts_of bytes.now) at.x at.y)).inner n }
@@ -164,6 +156,7 @@ fn goes_on(bytes: &[u8], at: Spot, n: usize) -> bool
 }
 
 // What node n gives by itself: one node seen, and its face if it is a leaf whose face holds the point.
+#[tactic(auto, using(crate::proofs::Sights::own_inner, crate::proofs::Sights::own_hit, crate::proofs::Sights::own_miss, crate::proofs::Sights::leaf_face))]
 fn own(bytes: &[u8], at: Spot, n: usize) -> Seen
     requires { Ready bytes.now × Placed at × (n < (parts_of bytes.now).nodes) }
     ensures { (result.count ≡ 1) × (result.face ≡ score (parts_of bytes.now).faces (nodes_of (parts_of bytes.now)) (face_of (parts_of bytes.now)) (face_holds (parts_of bytes.now) at.x at.y) n) }
@@ -234,6 +227,7 @@ fn spot_at(x: i64, y: i64) -> Spot
 }
 
 // What a walk from the root has seen, as an answer.
+#[tactic(auto, using(crate::proofs::Replies::on_found, crate::proofs::Replies::on_none))]
 fn told(seen: Seen, faces: usize) -> Point
     requires { (seen.count ≤ 8191) × (faces ≤ 4096) }
     ensures { result ≡ reply_of accepted seen.face faces seen.count }
@@ -258,6 +252,7 @@ fn told(seen: Seen, faces: usize) -> Point
 }
 
 // The answer where nothing is refused.
+#[tactic(auto, using(crate::proofs::Walks::no_faces, crate::proofs::Walks::root_under, crate::proofs::Walks::all_few, crate::proofs::Walks::few_seen, crate::proofs::Walks::walk_answer))]
 fn walked(bytes: &[u8], x: i64, y: i64) -> Point
     requires { Ready bytes.now × Within 65536 x × Within 65536 y }
     ensures { result ≡ point_of accepted (parts_of bytes.now) x y }
@@ -273,13 +268,12 @@ fn walked(bytes: &[u8], x: i64, y: i64) -> Point
 }
 
 // A refusal.
-fn refused(a: Answer) -> Point
-    requires { 0 < a.number }
-    ensures { result ≡ reply_of a 0 0 0 }
+fn refused(r: Refused) -> Point
+    ensures { result ≡ reply_of (refused (number_of r.refusal) r.place) 0 0 0 }
 {
     Point {
-        number: a.number,
-        place: a.place,
+        number: r.refusal.number(),
+        place: r.place,
         found: 0,
         face: 0,
         visited: 0,
@@ -291,11 +285,10 @@ fn asked(bytes: &[u8], x: i64, y: i64) -> Point
     requires { Accepted bytes.now }
     ensures { result ≡ point_of (rule29 x y then rule30 (parts_of bytes.now)) (parts_of bytes.now) x y }
 {
-    let a = point_verdict(bytes, x, y);
-    if a.number != 0 {
-        return refused(a);
+    match point_verdict(bytes, x, y) {
+        Ok(()) => walked(bytes, x, y),
+        Err(r) => refused(r),
     }
-    walked(bytes, x, y)
 }
 
 // The query: any bytes, any work memory, any x and y, which are in sixty-fourths.
@@ -303,9 +296,8 @@ pub fn query(bytes: &[u8], work: &mut [u8], x: i32, y: i32) -> Point
     ensures answer { result ≡ point_answer bytes.now (length work.old) x y }
     ensures memory { work.new ≡ reader_memory work.old }
 {
-    let so = floor::read_verdict(bytes, work);
-    if so.number != 0 {
-        return refused(so);
+    match floor::read_verdict(bytes, work) {
+        Ok(()) => asked(bytes, wire::widened(x), wire::widened(y)),
+        Err(r) => refused(r),
     }
-    asked(bytes, wire::widened(x), wire::widened(y))
 }

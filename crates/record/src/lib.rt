@@ -22,6 +22,7 @@ pub struct Rec {
 }
 
 // The record at a place of the journal.
+#[tactic(auto, unfolding(crate::specs::Record::record_at))]
 pub fn get_record(journal: &[u8], at: usize) -> Rec
     requires { at + size ≤ length journal.now }
     ensures { result ≡ record_at journal.now at }
@@ -37,6 +38,7 @@ pub fn get_record(journal: &[u8], at: usize) -> Rec
 }
 
 // Whose record stands at a place of the journal.
+#[tactic(auto, unfolding(crate::specs::Record::record_at))]
 pub fn bench_at(journal: &[u8], start: usize) -> u8
     requires { start + size ≤ length journal.now }
     ensures { result ≡ (record_at journal.now start).bench }
@@ -45,6 +47,7 @@ pub fn bench_at(journal: &[u8], start: usize) -> u8
 }
 
 // A record written at a place of the journal.
+#[tactic(auto, using(crate::proofs::Records::put_record))]
 pub fn put_record(journal: &mut [u8], at: usize, r: Rec)
     requires { at + size ≤ length journal.old }
     ensures { journal.new ≡ put journal.old at (record_bytes r) }

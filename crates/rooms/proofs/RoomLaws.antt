@@ -7,25 +7,22 @@ use native.Mathlib.Omega.{arith}
 use lib.Dec.{ltb}
 use lib.ListN.{length, get_or}
 use borrow.Author.Tests.{lt-ltb, le-ltb}
-use Rattle.verdict.specs.declared.Answer.{Answer}
-use Rattle.verdict.specs.Verdict.{accepted, refused, rule, ◌then◌}
+use Rattle.verdict.specs.Verdict.{refused, rule, ◌then◌}
 use Rattle.text.specs.Scan.{words, line_at}
 use Rattle.names.specs.Name.{is_name}
-use Rattle.layout.specs.declared.Layout.{Layout}
-use Rattle.rooms.specs.declared.Rooms.{Rooms}
 use Rattle.text.specs.Reading.{Word, nth}
 use Rattle.layout.specs.Grammar.{names_of, known_but}
 use Rattle.layout.specs.Layout.{layout_verdict, layout_of}
-use Rattle.rooms.specs.Rooms.{room_names, rooms_of, name_verdict}
-use Rattle.layout.specs.Starts.{held, KeptEntries, kept_name, layout_read}
+use Rattle.rooms.specs.Rooms.{Rooms, room_names, rooms_of, name_verdict}
+use Rattle.layout.specs.Starts.{held, KeptEntries, kept_name, Told, layout_read}
 use Rattle.layout.proofs.AnsweredLaws.{answered}
 use Rattle.layout.proofs.ApartLaws.{length_names}
-use Rattle.layout.proofs.ReadLaws.{layout_good, verdict_proper}
+use Rattle.layout.proofs.ReadLaws.{layout_good}
 use Rattle.layout.proofs.HeldLaws.{held_long, kept_entries}
 
 -- ---- the rooms of a layout, by what the reader answered
 
-module _ (s : List ℕ) (r : Layout) (a : r ≡ layout_read s) where
+module _ (s : List ℕ) (r : Told) (a : r ≡ layout_read s) where
   -- the reader keeps the start of each room
   pub rooms_kept : KeptEntries s r.starts r.rooms
   rooms_kept =
@@ -42,9 +39,6 @@ module _ (s : List ℕ) (r : Layout) (a : r ≡ layout_read s) where
 
   pub verdict_is : layout_verdict s ≡ refused r.number r.place
   verdict_is = sym (answered s r a).verdict
-
-  pub verdict_accepts : r.number ≡ 0 → layout_verdict s ≡ accepted
-  verdict_accepts z = (verdict_proper s).at_0 (ap (λ (v : Answer). v.number) verdict_is ∙ z)
 
   pub rooms_told : ◌≡◌ {A = Rooms} (record { number = r.number; place = r.place; rooms = r.rooms }) (rooms_of s)
   unfolding rooms_of

@@ -5,6 +5,7 @@ use Rattle.verdict.specs.Output.{form_memory}
 use Rattle.verdict.specs.declared.Answer.{Answer}
 use Rattle.tables.specs.Parts.{parts_of, word_place}
 use Rattle.tables.specs.Fixed.{form_of}
+use Rattle.floor.specs.Groups.{rules1to15}
 use Rattle.floor.specs.Reader.{early_rules, early_reader_rules}
 use Rattle.corners.specs.Corners.{recornered}
 use Rattle.seams.specs.Mended.{mended}
@@ -31,6 +32,11 @@ mend_verdict b room out list = in_order (mend_rules b room out list)
 -- the two of 40 alone: what is left to ask of a floor whose rules are met
 unfoldable pub room_verdict : List ℕ → ℕ → ℕ → Answer
 room_verdict b out list = rule 40 (ltb out (length (mended_form b))) 0 then rule 40 (ltb list (length (mended_list b))) 0
+
+-- all but the work memory, in groups: the rules of the floor and of the changed corners, then 40. mend/proofs/Outputs.antt shows that they are the table
+unfoldable pub rules_and_room : List ℕ → ℕ → ℕ → Answer
+rules_and_room b out list =
+    (rules1to15 b then in_order (early_rules (word_place b) (recornered (parts_of b)))) then room_verdict b out list
 
 -- the answer by a verdict: number, place, and how many bytes were written to each output, 0 on refusal
 unfoldable pub answer_by : Answer → List ℕ → Mended

@@ -1,47 +1,59 @@
 -- What the calls answer, case by case. Assumes nothing.
 use mathlib.Core.Path.{◌≡◌, sym, ap, ◌∙◌}
 use mathlib.Core.List.{List}
-use Prim.Native.Nat.{ℕ, ◌≤◌}
+use Prim.Native.Nat.{ℕ}
 use native.Mathlib.Omega.{arith}
 use lib.Count.{ones}
 use lib.ListN.{get_or}
 use Rattle.verdict.specs.declared.Answer.{Answer}
+use Rattle.std.specs.declared.result.Result.{Result}
+use Rattle.std.specs.declared.result.Result.TheVariants.{Ok, Err}
+use Rattle.verdict.specs.declared.Refused.{Refused}
+use Rattle.verdict.specs.Verdict.{accepted, refused}
+use Rattle.verdict.specs.Refusals.{number_of, verdict_of}
+use Rattle.verdict.proofs.Results.{accepts, number_positive}
 use Rattle.text.specs.Sound.{rules31to32}
-use Rattle.layout.specs.declared.Layout.{Layout}
-use Rattle.layout.specs.Starts.{layout_read}
-use Rattle.rooms.proofs.RoomLaws.{names_are, verdict_is, verdict_accepts}
-use Rattle.sight.specs.declared.Sight.{Sight}
+use Rattle.layout.specs.Layout.{layout_verdict}
+use Rattle.layout.specs.Starts.{Told, layout_read}
+use Rattle.rooms.proofs.RoomLaws.{names_are}
 use Rattle.sight.specs.declared.Row.{Row}
-use Rattle.sight.specs.Sight.{grammar, sight_of, row_answer}
-use Rattle.sight.specs.Code.{as_read, no_sight, kept_names}
-use Rattle.sight.proofs.SightLaws.{few_names, sight_of_no_layout, sight_of_unsound, sight_of_sound, no_room}
+use Rattle.sight.specs.Sight.{ToldSight, grammar, sight_verdict, sight_of, row_answer}
+use Rattle.sight.specs.Code.{as_read, no_sight, told_sight, kept_names}
+use Rattle.sight.proofs.SightLaws.{sight_of_no_layout, sight_of_unsound, sight_of_sound}
+use Rattle.sight.proofs.RowsGood.{no_row}
 
 -- ---- a room's row
 
-pub row_told : (layout s : List ℕ) (room : ℕ) (v : Sight) → v ≡ sight_of layout s → ◌≡◌ {A = Row} (record { number = v.number; place = v.place; row = get_or v.rows room 0; seen = ones (get_or v.rows room 0) }) (row_answer layout s room)
+pub row_told : (layout s : List ℕ) (room : ℕ) (v : ToldSight) → v ≡ sight_of layout s → ◌≡◌ {A = Row} (record { number = v.number; place = v.place; row = get_or v.rows room 0; seen = ones (get_or v.rows room 0) }) (row_answer layout s room)
 unfolding row_answer sight_of
 row_told layout s room v e = rw e
 
-pub no_row_told : (layout s : List ℕ) (room : ℕ) (v : Sight) → v ≡ sight_of layout s → 64 ≤ room → ◌≡◌ {A = Row} (record { number = v.number; place = v.place; row = 0; seen = 0 }) (row_answer layout s room)
-unfolding ones
-no_row_told layout s room v e h =
-    let z : get_or v.rows room 0 ≡ 0 = rw e (unfold sight_of in (no_room layout s room (omega (arith, few_names layout)))) in
-    ap (λ (m : ℕ). record { number = v.number; place = v.place; row = m; seen = ones m }) (sym z) ∙ row_told layout s room v e
+pub no_row_told : (layout s : List ℕ) (room : ℕ) (r : Refused) → told_sight (Err r) ≡ sight_of layout s → ◌≡◌ {A = Row} (record { number = number_of r.refusal; place = r.place; row = 0; seen = 0 }) (row_answer layout s room)
+unfolding ones no_sight
+no_row_told layout s room r e =
+    ap (λ (m : ℕ). record { number = number_of r.refusal; place = r.place; row = m; seen = ones m }) (sym (no_row room)) ∙ row_told layout s room (told_sight (Err r)) e
 
 -- ---- by what was read of the layout
 
-module _ (layout s : List ℕ) (r : Layout) (a : r ≡ layout_read layout) where
-  pub unread : (r.number ≡ 0 → ⊥) → no_sight r.number r.place ≡ sight_of layout s
+module _ (layout s : List ℕ) where
+  pub unread : (r : Refused) → refused (number_of r.refusal) r.place ≡ layout_verdict layout → told_sight (Err r) ≡ sight_of layout s
   unfolding no_sight
-  unread z =
-      let e = verdict_is layout r a in
-      sym (sight_of_no_layout layout s (λ y. z (sym (ap (λ (v : Answer). v.number) e) ∙ y)) ∙ rw e)
+  unread r a =
+      let e : layout_verdict layout ≡ refused (number_of r.refusal) r.place = sym a in
+      sym (sight_of_no_layout layout s (λ z. absurd (omega (arith, number_positive r.refusal, ap (λ (v : Answer). v.number) a, z))) ∙ rw e)
 
-  pub unsound : (v : Answer) → r.number ≡ 0 → v ≡ rules31to32 s → (v.number ≡ 0 → ⊥) → no_sight v.number v.place ≡ sight_of layout s
+  pub unsound : (r : Refused) → accepted ≡ layout_verdict layout → refused (number_of r.refusal) r.place ≡ rules31to32 s → told_sight (Err r) ≡ sight_of layout s
   unfolding no_sight
-  unsound v y e z =
-      rw (e) (sym (sight_of_unsound layout s (ap (λ (v : Answer). v.number) (verdict_accepts layout r a y)) (λ x. z (ap (λ (v : Answer). v.number) e ∙ x))))
+  unsound r y a =
+      let e : rules31to32 s ≡ refused (number_of r.refusal) r.place = sym a in
+      sym (sight_of_unsound layout s (accepts y) (λ z. absurd (omega (arith, number_positive r.refusal, ap (λ (v : Answer). v.number) a, z))) ∙ rw e)
 
-  pub sound : (v : Answer) (w : Sight) → r.number ≡ 0 → v ≡ rules31to32 s → v.number ≡ 0 → w ≡ as_read (grammar (kept_names layout r.starts r.rooms) s) → w ≡ sight_of layout s
-  sound v w y e z h =
-      h ∙ rw (names_are layout r a) (sym (sight_of_sound layout s (ap (λ (v : Answer). v.number) (verdict_accepts layout r a y)) (sym (ap (λ (v : Answer). v.number) e) ∙ z)))
+  pub sound : (r : Told) (w : ToldSight) → r ≡ layout_read layout → accepted ≡ layout_verdict layout → accepted ≡ rules31to32 s → w ≡ as_read (grammar (kept_names layout r.starts r.rooms) s) → w ≡ sight_of layout s
+  sound r w a y e h = h ∙ rw (names_are layout r a) (sym (sight_of_sound layout s (accepts y) (accepts e)))
+
+  -- ---- the verdict of what is told
+
+  pub sight_told : (v : Result (List ℕ) Refused) → told_sight v ≡ sight_of layout s → verdict_of v ≡ sight_verdict layout s
+  unfolding sight_of no_sight
+  sight_told (Ok rows) e = ap (λ (t : ToldSight). refused t.number t.place) e
+  sight_told (Err r) e = ap (λ (t : ToldSight). refused t.number t.place) e

@@ -1,14 +1,15 @@
 -- Finding the room that a word names among the rooms whose starts are kept. Assumes nothing.
-use mathlib.Core.Path.{◌≡◌, sym, ◌∙◌}
+use mathlib.Core.Path.{◌≡◌, sym, ap, ◌∙◌}
 use mathlib.Core.Bool.{Bool, true, false}
 use mathlib.Core.List.{List, []}
 use Prim.Native.Nat.{ℕ, ◌≤◌, ◌<◌}
 use native.Mathlib.Omega.{arith}
 use lib.ListN.{length, get_or}
 use borrow.Author.Tests.{lt-ltb}
-use Rattle.verdict.specs.Lowest.{lowest}
+use Rattle.std.specs.Prelude.{unwrap_or}
+use Rattle.verdict.specs.Lowest.{lowest, any_under, first}
 use Rattle.verdict.proofs.Bools.{test, clash}
-use Rattle.verdict.proofs.Lowest.{lowest_hit, lowest_all, lowest_done}
+use Rattle.verdict.proofs.Lowest.{lowest_all, lowest_same_lem, none_under}
 use Rattle.names.specs.Name.{is_name, same_name}
 use Rattle.text.specs.Reading.{Word}
 use Rattle.names.proofs.NameLaws.{same_name_name, name_long}
@@ -17,6 +18,11 @@ use Rattle.layout.proofs.ApartLaws.{length_names}
 use Rattle.layout.proofs.HeldLaws.{held_long, room_name_lem}
 use Rattle.sight.specs.Grammar.{room_of}
 use Rattle.sight.specs.Code.{kept_names}
+
+-- the first of n numbers, or n where there is none
+first_or_all : (n : ℕ) (p : ℕ → Bool) → unwrap_or (first n p) n ≡ lowest n p
+unfolding first
+first_or_all n p = test (any_under n p) (λ (e : any_under n p ≡ true). rw e) (λ (e : any_under n p ≡ false). rw e (sym (lowest_all p n (none_under p n e))))
 
 -- room m has the name
 abbrev pub has_name : List Word → Word → ℕ → Bool
@@ -47,15 +53,10 @@ module _ (s starts : List ℕ) (n : ℕ) (kept : KeptEntries s starts n) where
       let h : k < n = omega (arith, names_long) in
       test (has_name (kept_names s starts n) w k) (λ (q : has_name (kept_names s starts n) w k ≡ true). clash (same_name_name w _ q (rw (← kept_is k h) (kept_good k h))) e) (λ q. q)) ∙ names_long)
 
-  -- ---- the search, step by step
-
-  pub find_turn : (w u : Word) (j : ℕ) (r t : Bool) → j < n → u ≡ kept_name s starts j → r ≡ same_name w u → r ≡ t → has_name (kept_names s starts n) w j ≡ t
-  find_turn w u j r t l eu er et = rw (← kept_is j l, ← eu) (sym er ∙ et)
-
-  pub find_hit : (w : Word) (j : ℕ) → j < n → lowest j (has_name (kept_names s starts n) w) ≡ j → has_name (kept_names s starts n) w j ≡ true → j ≡ room_of (kept_names s starts n) w
+  -- what the search answers, which goes by the names at the kept starts
+  pub found_room : (w : Word) → unwrap_or (first n (λ j. same_name w (kept_name s starts j))) n ≡ room_of (kept_names s starts n) w
   unfolding room_of
-  find_hit w j l i t = sym (lowest_hit (has_name (kept_names s starts n) w) j _ i t (omega (arith, names_long)))
-
-  pub find_none : (w : Word) (j : ℕ) → n ≤ j → lowest j (has_name (kept_names s starts n) w) ≡ j → n ≡ room_of (kept_names s starts n) w
-  unfolding room_of
-  find_none w j l i = sym names_long ∙ lowest_done (has_name (kept_names s starts n) w) j _ i (omega (arith, names_long))
+  found_room w =
+      first_or_all n _
+      ∙ lowest_same_lem n _ (λ j. same_name w (get_or (kept_names s starts n) j [])) (λ j l. ap (same_name w) (kept_is j l))
+      ∙ rw names_long

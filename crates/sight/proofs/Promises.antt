@@ -10,9 +10,8 @@ use lib.Pow.{pow_mono}
 use Rattle.verdict.specs.Lists.{tally}
 use Rattle.rooms.specs.Rooms.{room_names}
 use Rattle.sight.specs.declared.Row.{Row}
-use Rattle.sight.specs.declared.Sight.{Sight}
 use Rattle.sight.specs.Rows.{sees}
-use Rattle.sight.specs.Sight.{rows_of, sight_of, row_answer}
+use Rattle.sight.specs.Sight.{ToldSight, rows_of, sight_of, row_answer}
 use Rattle.sight.proofs.MarkLaws.{sees_past}
 use Rattle.sight.proofs.LowLaws.{ones_tally}
 use Rattle.sight.proofs.RowsGood.{no_row}
@@ -21,7 +20,7 @@ use Rattle.sight.proofs.SightLaws.{rows_good, rows_refused, no_room, row_fits}
 -- ---- reading
 
 -- two answers that the contract admits are equal
-pub one_sight : (layout s : List ℕ) (a b : Sight) → a ≡ sight_of layout s → b ≡ sight_of layout s → a ≡ b
+pub one_sight : (layout s : List ℕ) (a b : ToldSight) → a ≡ sight_of layout s → b ≡ sight_of layout s → a ≡ b
 one_sight layout s a b p q = p ∙ sym q
 
 -- ---- a row's answer

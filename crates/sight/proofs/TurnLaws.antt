@@ -14,12 +14,10 @@ use Rattle.text.specs.Scan.{run, apart, words, line_at}
 use Rattle.text.specs.Reading.{Word, Line, nth}
 use Rattle.text.proofs.ReadingLaws.{Standing, standing, stand_next, stand_stop, stand_end}
 use Rattle.sight.specs.declared.Looking.{Looking}
-use Rattle.sight.specs.declared.Turn.{Turn}
-use Rattle.sight.specs.declared.Sight.{Sight}
 use Rattle.sight.specs.Rows.{sees, no_rows}
 use Rattle.sight.specs.Grammar.{room_of, room_fault, line_fault, moved_to, rows_behind, start, fault, next, finish, sight_grammar}
-use Rattle.sight.specs.Sight.{grammar}
-use Rattle.sight.specs.Code.{as_read, no_sight, state_of, turn_of, rows_after}
+use Rattle.sight.specs.Sight.{ToldSight, grammar}
+use Rattle.sight.specs.Code.{Turn, as_read, no_sight, state_of, turn_of, rows_after}
 use Rattle.sight.proofs.RoomLaws.{room_within}
 use Rattle.sight.proofs.RowsGood.{room_known, room_new, seen_faults, observer_faults}
 
@@ -119,6 +117,6 @@ module _ (names : List Word) (s rows : List ℕ) (c : Looking) (passed at : ℕ)
   unfolding as_read no_sight finish
   ends_early z = rw (ends, ne_eqb c.left 0 z)
 
-  pub ends_right : c.left ≡ 0 → ◌≡◌ {A = Sight} (record { number = 0; place = 0; rows = rows }) (as_read (grammar names s))
+  pub ends_right : c.left ≡ 0 → ◌≡◌ {A = ToldSight} (record { number = 0; place = 0; rows = rows }) (as_read (grammar names s))
   unfolding as_read finish
   ends_right z = rw (ends, eq-eqb c.left 0 z)

@@ -8,7 +8,6 @@ use Rattle.text.specs.Written.{word_lines}
 use Rattle.text.specs.Reading.{Word, read_lines}
 use Rattle.layout.specs.Layout.{layout_verdict}
 use Rattle.rooms.specs.Rooms.{room_names}
-use Rattle.sight.specs.declared.Sight.{Sight}
 use Rattle.sight.specs.declared.Row.{Row}
 use Rattle.sight.specs.Rows.{no_rows}
 use Rattle.sight.specs.Grammar.{Reading, start, sight_grammar}
@@ -25,8 +24,14 @@ sight_verdict layout s = layout_verdict layout then rules31to32 s then (grammar 
 unfoldable pub rows_of : List ℕ → List ℕ → List ℕ
 rows_of layout s = cond (eqb (sight_verdict layout s).number 0) (grammar (room_names layout) s).rows no_rows
 
+-- what is told of visibility: a verdict, and the rows
+pub record ToldSight : Type 0 where
+  pub number : ℕ
+  pub place : ℕ
+  pub rows : List ℕ
+
 -- the two together
-unfoldable pub sight_of : List ℕ → List ℕ → Sight
+unfoldable pub sight_of : List ℕ → List ℕ → ToldSight
 sight_of layout s = record { number = (sight_verdict layout s).number; place = (sight_verdict layout s).place; rows = rows_of layout s }
 
 -- a room's row, and the number of rooms seen: the count of its set marks. Both are 0 on refusal and for no room

@@ -3,17 +3,18 @@ ghost use Rattle.std.specs.Prelude.{◌≡◌, true, false, ◌+◌, ◌<◌, le
 ghost use Rattle.text.specs.Scan.{words};
 ghost use Rattle.names.specs.Name.{is_name};
 ghost use Rattle.number.specs.Count.{is_count};
-ghost use Rattle.text.specs.Reading.{nth};
+ghost use Rattle.text.specs.Reading.{fault_of, nth};
 ghost use Rattle.layout.specs.Starts.{KeptEntries};
 ghost use Rattle.sight.specs.Rows.{sees, with_mark};
 ghost use Rattle.sight.specs.Grammar.{room_of, room_fault, seen_fault, observer_fault, line_fault, moved_to, rows_behind};
-ghost use Rattle.sight.specs.Code.{kept_names, state_of, turn_of, rows_after};
+ghost use Rattle.sight.specs.Code.{kept_names, state_of, told_turn, turn_of, rows_after};
 
-use super::{Looking, Turn, is_seen};
+use super::{Looking, is_seen};
 use names::is_name;
 use number::is_count;
 use rooms::room_name;
 use text::{word, word_count};
+use verdict::Refusal;
 
 // The row with mark j, which is not set yet.
 pub(crate) fn with_mark(row: u64, j: usize) -> u64
@@ -28,14 +29,9 @@ pub(crate) fn find_room(layout: &[u8], starts: &[usize], n: usize, w: &[u8]) -> 
     requires { KeptEntries layout.now starts.now n × (is_name w.now ≡ true) }
     ensures { result ≡ room_of (kept_names layout.now starts.now n) w.now }
 {
-    let mut j = 0;
-    while j < n {
-        if names::same_name(w, room_name(layout, starts, j)) {
-            return j;
-        }
-        j += 1;
-    }
-    n
+    (0..n)
+        .find(|j| names::same_name(w, room_name(layout, starts, *j)))
+        .unwrap_or(n)
 }
 
 // The room that a word names, or n: a word that is no name names none.
@@ -50,53 +46,59 @@ pub(crate) fn room_of(layout: &[u8], starts: &[usize], n: usize, w: &[u8]) -> us
 }
 
 // What is wrong with a line's room: 37, 39 or nothing.
-pub(crate) fn room_fault(n: usize, row: u64, room: usize) -> u32
-    ensures { result ≡ room_fault n row room }
+pub(crate) fn room_fault(n: usize, row: u64, room: usize) -> Result<(), Refusal>
+    ensures { fault_of result ≡ room_fault n row room }
 {
     if is_seen(row, room) {
-        return 37;
+        return Err(Refusal::NameTwice);
     }
     if room == n {
-        return 39;
+        return Err(Refusal::UnknownRoom);
     }
-    0
+    Ok(())
 }
 
 // What is wrong with a line of a list.
-pub(crate) fn seen_fault(n: usize, row: u64, room: usize, l: &[u8]) -> u32
-    ensures { result ≡ seen_fault n row room (words l.now) }
+pub(crate) fn seen_fault(n: usize, row: u64, room: usize, l: &[u8]) -> Result<(), Refusal>
+    ensures { fault_of result ≡ seen_fault n row room (words l.now) }
 {
     if word_count(l) != 1 {
-        return 33;
+        return Err(Refusal::TextLine);
     }
-    if is_name(word(l, 0)) {
-        return room_fault(n, row, room);
+    if !is_name(word(l, 0)) {
+        return Err(Refusal::Name);
     }
-    34
+    room_fault(n, row, room)
 }
 
 // What is wrong with an observer's line.
-pub(crate) fn observer_fault(n: usize, told: u64, room: usize, l: &[u8]) -> u32
-    ensures { result ≡ observer_fault n told room (words l.now) }
+pub(crate) fn observer_fault(n: usize, told: u64, room: usize, l: &[u8]) -> Result<(), Refusal>
+    ensures { fault_of result ≡ observer_fault n told room (words l.now) }
 {
     if word_count(l) != 2 {
-        return 33;
+        return Err(Refusal::TextLine);
     }
-    if is_name(word(l, 0)) {
-        if is_count(word(l, 1)) {
-            return room_fault(n, told, room);
-        }
-        return 36;
+    if !is_name(word(l, 0)) {
+        return Err(Refusal::Name);
     }
-    34
+    if !is_count(word(l, 1)) {
+        return Err(Refusal::TextCount);
+    }
+    room_fault(n, told, room)
 }
 
 // What is wrong with a line whose first word names a room; nothing if it is blank.
-pub(crate) fn line_fault(n: usize, st: Looking, row: u64, room: usize, l: &[u8]) -> u32
-    ensures { result ≡ line_fault n st row room (words l.now) }
+pub(crate) fn line_fault(
+    n: usize,
+    st: Looking,
+    row: u64,
+    room: usize,
+    l: &[u8],
+) -> Result<(), Refusal>
+    ensures { fault_of result ≡ line_fault n st row room (words l.now) }
 {
     if word_count(l) == 0 {
-        return 0;
+        return Ok(());
     }
     if 0 < st.left {
         return seen_fault(n, row, room, l);
@@ -151,18 +153,14 @@ pub(crate) fn turn(
     rows: &mut [u64; 64],
     st: Looking,
     l: &[u8],
-) -> Turn
+) -> Result<Looking, Refusal>
     requires { KeptEntries layout.now starts.now n × (st.observer < 64) }
-    ensures answer { result ≡ turn_of (kept_names layout.now starts.now n) (state_of st rows.old) (words l.now) }
+    ensures answer { told_turn st result ≡ turn_of (kept_names layout.now starts.now n) (state_of st rows.old) (words l.now) }
     ensures marks { rows.new ≡ rows_after (kept_names layout.now starts.now n) (state_of st rows.old) (words l.now) }
 {
     let room = room_of(layout, starts, n, word(l, 0));
     let i = st.observer;
-    let fault = line_fault(n, st, rows[i], room, l);
-    if fault != 0 {
-        return Turn { fault, next: st };
-    }
+    line_fault(n, st, rows[i], room, l)?;
     mark(rows, st, room, l);
-    let next = moved(st, room, l);
-    Turn { fault, next }
+    Ok(moved(st, room, l))
 }

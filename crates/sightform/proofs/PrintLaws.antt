@@ -8,8 +8,8 @@ use native.Mathlib.Omega.{arith}
 use native.Mathlib.Decide.{ℕ_discrete}
 use lib.Count.{ones}
 use lib.Dec.{eqb}
-use lib.ListN.{length, get_or, length-map, length-set, length-append}
-use lib.Seq.{get_or-set_same, get_or-set_other}
+use lib.ListN.{length, get_or, take, length-map, length-set, length-append}
+use lib.Seq.{get_or-set_same, get_or-set_other, get_or-take, length-take-le}
 use borrow.Author.Tests.{eq-eqb, ne_eqb}
 use Rattle.verdict.proofs.Bools.{decided}
 use Rattle.verdict.proofs.Lists.{map_at_lem}
@@ -105,6 +105,13 @@ seen_end w t h q = omega (arith, q.next, seen_long w t h)
 
 pub seen_further : {b c : List ℕ} {e k : ℕ} (s starts : List ℕ) (i : ℕ) (name : Word) (row j : ℕ) → length name ≤ 16 → length (kept_name s starts j) ≤ 16 → Wrote b c e k (ended (map seen_line (cond (sees row j) (shown_as s starts i name j ∷ []) []))) → k ≤ e + 19
 seen_further s starts i name row j h m q = seen_end (shown_as s starts i name j) (sees row j) (shown_short s starts i name j h m) q
+
+-- a row among the first n is one of all, and behind the last of them n are passed
+pub first_rows : (rows : List ℕ) (n k : ℕ) → n ≤ length rows → k < length (take n rows) → (k < n) × (get_or (take n rows) k 0 ≡ get_or rows k 0)
+first_rows rows n k h m = let l : k < n = omega (arith, length-take-le n rows h) in (l, get_or-take n rows k 0 l)
+
+pub rows_done : (rows : List ℕ) (n k : ℕ) → n ≤ length rows → k ≤ n → length (take n rows) ≤ k → k ≡ n
+rows_done rows n k h l m = omega (arith, length-take-le n rows h)
 
 -- a room's line, and the rooms that it sees
 pub room_bytes : (w p : Word) (rest : List (List ℕ)) → w ++ ((32 ∷ []) ++ (p ++ ((10 ∷ []) ++ ended rest))) ≡ ended (spaced (w ∷ p ∷ []) ∷ rest)

@@ -1,6 +1,7 @@
 // The fixed form of visibility, printed: names, lines, rooms, and rule 40.
 ghost use Rattle.std.specs.Prelude.{◌≡◌, cond, [], ◌∷◌, map, ◌+◌, ◌*◌, ◌^◌, ◌<◌, ◌≤◌, length, eqb};
 ghost use Rattle.verdict.specs.Output.{form_answer, form_memory};
+ghost use Rattle.verdict.specs.Refusals.{told_form};
 ghost use Rattle.letters.specs.Case.{lowered};
 ghost use Rattle.printer.specs.Write.{Wrote};
 ghost use Rattle.text.specs.Written.{ended, rule40};
@@ -12,7 +13,7 @@ ghost use Rattle.sightform.specs.Code.{printed_names};
 use printer::put_byte;
 use rooms::room_name;
 use sight::is_seen;
-use verdict::{Form, refused_form};
+use verdict::{Refusal, Refused};
 
 // The name of room j in lower case, the typed one for room i.
 pub(crate) fn put_name(
@@ -88,10 +89,8 @@ pub(crate) fn put_seen(
     ensures end { result ≤ at + 19 * n }
 {
     let mut e = at;
-    let mut j = 0;
-    while j < n {
+    for j in 0..n {
         e = put_if_seen(out, e, layout, starts, row, j, i, name);
-        j += 1;
     }
     e
 }
@@ -136,10 +135,8 @@ pub(crate) fn put_form(
     ensures { Wrote out.old out.new 0 result (sight_text (printed_names layout.now starts.now n i name.now) rows.now) }
 {
     let mut e = 0;
-    let mut k = 0;
-    while k < n {
-        e = put_room(out, e, layout, starts, n, k, rows[k], i, name);
-        k += 1;
+    for (k, row) in rows[..n].iter().enumerate() {
+        e = put_room(out, e, layout, starts, n, k, *row, i, name);
     }
     e
 }
@@ -153,23 +150,19 @@ pub(crate) fn write_form(
     rows: &[u64],
     i: usize,
     name: &[u8],
-) -> Form
+) -> Result<u32, Refused>
     requires small { (length rows.now ≡ 64) × (length name.now ≤ 16) }
     requires kept { KeptEntries layout.now starts.now n }
-    ensures answer { result ≡ form_answer (rule40 (sight_text (printed_names layout.now starts.now n i name.now) rows.now) (length out.old)) (sight_text (printed_names layout.now starts.now n i name.now) rows.now) }
+    ensures answer { told_form result ≡ form_answer (rule40 (sight_text (printed_names layout.now starts.now n i name.now) rows.now) (length out.old)) (sight_text (printed_names layout.now starts.now n i name.now) rows.now) }
     ensures memory { out.new ≡ form_memory (rule40 (sight_text (printed_names layout.now starts.now n i name.now) rows.now) (length out.old)) (sight_text (printed_names layout.now starts.now n i name.now) rows.now) out.old }
 {
     let m = put_form(&mut out[..0], layout, starts, n, rows, i, name);
-    if 65536 < m {
-        return refused_form(40, 0);
-    }
-    if out.len() < m {
-        return refused_form(40, 0);
+    if 65536 < m || out.len() < m {
+        return Err(Refused {
+            refusal: Refusal::OutputShort,
+            place: 0,
+        });
     }
     let length = put_form(out, layout, starts, n, rows, i, name);
-    Form {
-        number: 0,
-        place: 0,
-        length: length as u32,
-    }
+    Ok(length as u32)
 }

@@ -37,6 +37,7 @@ fn turned(area: i64, n: i64) -> i64
 }
 
 // Twice the area of a, b and the point, positive where the point lies to the left of the way from a to b.
+#[tactic(auto, using(wire::proofs::Signed::stored, wire::proofs::Signed::reads_within, triangle::proofs::Machine::crossed), unfolding(crate::specs::Height::beside))]
 fn beside(a: Corner, b: Corner, x: i64, y: i64) -> i64
     requires { Near a × Near b × Within 65536 x × Within 65536 y }
     ensures { (result ≡ beside a b x y) × Within most_cross result }

@@ -7,6 +7,9 @@ ghost use Rattle.tables.specs.Tables.{table, table_at, width, span_of, InHeader,
 ghost use Rattle.tables.specs.Header.{floor_tables, RightHeader};
 ghost use Rattle.tables.specs.Parts.{parts_of, table_of, count_of, word_index, word_of, word_place, corner, material};
 
+// How many tables a floor has.
+pub const TABLES: usize = 9;
+
 // A table by the positions of its count and its offset in the header, and the size of an entry.
 #[derive(Clone, Copy)]
 pub struct Table {
@@ -66,6 +69,7 @@ pub fn table_at(k: usize) -> Table
 }
 
 // Where table k lies.
+#[tactic(auto, using(crate::proofs::Floor::product_fits), unfolding(crate::specs::Tables::span_of))]
 pub fn span_at(bytes: &[u8], k: usize) -> Span
     requires { (k < 9) × (136 ≤ length bytes.now) }
     ensures { result ≡ span_of bytes.now (table_at floor_tables k) }
@@ -90,6 +94,7 @@ pub fn count_of(bytes: &[u8], k: usize) -> usize
 }
 
 // Where table k starts.
+#[tactic(auto, using(crate::proofs::Right::header_met))]
 pub fn start_of(bytes: &[u8], k: usize) -> usize
     requires { RightHeader bytes.now × (k < 9) }
     ensures { (result ≡ u32_at bytes.now (table_at floor_tables k).offset) × (result < 4294967296) }
@@ -107,6 +112,7 @@ pub fn word_at(bytes: &[u8], k: usize, j: usize) -> u32
 }
 
 // The root field.
+#[tactic(auto, using(crate::proofs::Right::header_met), unfolding(crate::specs::Parts::parts_of))]
 pub fn root_of(bytes: &[u8]) -> u32
     requires { RightHeader bytes.now }
     ensures { result ≡ (parts_of bytes.now).root }
@@ -115,6 +121,7 @@ pub fn root_of(bytes: &[u8]) -> u32
 }
 
 // The bits of the header's float i.
+#[tactic(auto, using(crate::proofs::Right::header_met, crate::proofs::Reading::read_at, crate::proofs::Reading::float_is))]
 pub fn float_word(bytes: &[u8], i: usize) -> u32
     requires { RightHeader bytes.now × (i < 15) }
     ensures { result ≡ get_or (parts_of bytes.now).floats i 0 }
@@ -123,6 +130,7 @@ pub fn float_word(bytes: &[u8], i: usize) -> u32
 }
 
 // Where entry i of table k lies.
+#[tactic(auto, using(crate::proofs::Right::floor_entry), unfolding(crate::specs::Tables::entry_at))]
 fn entry_at(bytes: &[u8], k: usize, i: usize) -> usize
     requires { RightHeader bytes.now × (k < 9) × (i < u32_at bytes.now (table_at floor_tables k).count) }
     ensures { (result ≡ entry_at bytes.now (table_at floor_tables k) i) × (result + (table_at floor_tables k).size ≤ length bytes.now) }
@@ -133,6 +141,7 @@ fn entry_at(bytes: &[u8], k: usize, i: usize) -> usize
 }
 
 // Where word e of entry i of table k lies.
+#[tactic(auto, using(crate::proofs::Floor::floor_in_header, crate::proofs::Right::header_met, crate::proofs::Reading::count_is, crate::proofs::Reading::place_is))]
 pub fn place_of(bytes: &[u8], k: usize, i: usize, e: usize) -> usize
     requires { RightHeader bytes.now × (k < 9) × (i < count_of (parts_of bytes.now) k) × (e < width (table_at floor_tables k)) }
     ensures { (result ≡ word_place bytes.now k (word_index k i e)) × (result + 4 ≤ length bytes.now) × (result ≤ 1048576) }
@@ -141,6 +150,7 @@ pub fn place_of(bytes: &[u8], k: usize, i: usize, e: usize) -> usize
 }
 
 // Word e of entry i of table k.
+#[tactic(auto, using(crate::proofs::Reading::word_read))]
 pub fn word_of(bytes: &[u8], k: usize, i: usize, e: usize) -> u32
     requires { RightHeader bytes.now × (k < 9) × (i < count_of (parts_of bytes.now) k) × (e < width (table_at floor_tables k)) }
     ensures { result ≡ word_of (parts_of bytes.now) k i e }

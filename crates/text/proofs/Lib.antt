@@ -1,4 +1,5 @@
 pub mod RunLaws
+pub mod Counted
 pub mod SoundLaws
 pub mod SplitLaws
 pub mod ReadingLaws

@@ -1,13 +1,16 @@
--- Laws of a leading run, for a cursor that walks a list, and for a list that is put together. Assumes nothing.
+-- Laws of a leading run: what the code counts, and the run of a list that is put together. Assumes nothing.
 use mathlib.Core.Path.{◌≡◌, refl, sym, ap, ◌∙◌}
 use mathlib.Core.Bool.{Bool, true, false}
 use mathlib.Core.List.{List, [], ◌∷◌, ◌++◌}
 use Prim.Native.Nat.{ℕ, zero, suc, ◌+◌, ◌≤◌, ◌<◌, zero-le, suc-le-suc}
+use Prim.Native.Nat.compare
 use native.Mathlib.Nat.{le_of_suc-le-suc, not-suc-le-zero, zero-add}
-use native.Mathlib.Numerals.{add-one}
 use native.Mathlib.Omega.{arith}
-use lib.ListN.{length, get_or, take, drop, drop_of_length-le, length-append}
-use lib.Seq.{drop-cons}
+use lib.Dec.{eqb}
+use borrow.Author.Tests.{ne_eqb}
+use lib.ListN.{length, get_or, take, drop, length-append}
+use lib.Seq.{length-take-le}
+use Rattle.std.specs.List.{prefix_len, take_while, list_all}
 use Rattle.verdict.proofs.Bools.{test}
 use Rattle.text.specs.Scan.{run}
 
@@ -28,23 +31,6 @@ module _ (p : ℕ → Bool) where
   unfolding run
   run_cons_off b s e = simp e
 
-  -- a cursor: the run from i, by what stands at i
-  pub run_on : (s : List ℕ) (i : ℕ) → i < length s → p (get_or s i 0) ≡ true → i + run p (drop i s) ≡ i + 1 + run p (drop (i + 1) s)
-  run_on s i h e =
-      let k : run p (drop i s) ≡ suc (run p (drop (suc i) s)) = rw (drop-cons s i 0 h) (run_cons_on (get_or s i 0) (drop (suc i) s) e) in
-      rw add-one (omega arith)
-
-  pub run_off : (s : List ℕ) (i : ℕ) → i < length s → p (get_or s i 0) ≡ false → i + run p (drop i s) ≡ i
-  run_off s i h e =
-      let k : run p (drop i s) ≡ 0 = rw (drop-cons s i 0 h) (run_cons_off (get_or s i 0) (drop (suc i) s) e) in
-      omega arith
-
-  pub run_end : (s : List ℕ) (i : ℕ) → length s ≤ i → i + run p (drop i s) ≡ i
-  unfolding run
-  run_end s i h =
-      let k : run p (drop i s) ≡ 0 = rw (drop_of_length-le s h) in
-      omega arith
-
   pub run_le : (s : List ℕ) → run p s ≤ length s
   run_le [] = unfold run in zero-le
   run_le (b ∷ s) = go (p b) refl (run_le s)
@@ -52,6 +38,15 @@ module _ (p : ℕ → Bool) where
       go : (t : Bool) → p b ≡ t → run p s ≤ length s → run p (b ∷ s) ≤ suc (length s)
       go true e h = rw (run_cons_on b s e) (suc-le-suc h)
       go false e h = rw (run_cons_off b s e) zero-le
+
+  pub run_is_prefix : (s : List ℕ) → prefix_len p s ≡ run p s
+  unfolding run
+  run_is_prefix [] = refl
+  run_is_prefix (b ∷ s) = test (p b) (λ e. rw e (omega (arith, run_is_prefix s))) (λ e. rw e refl)
+
+  -- what `take_while(..).count()` answers
+  pub run_is_front : (s : List ℕ) → length (take_while p s) ≡ run p s
+  run_is_front s = rw (run_is_prefix s) (length-take-le (run p s) s (run_le s))
 
   -- each byte of the run passes
   pub run_at : (s : List ℕ) (i : ℕ) → i < run p s → p (get_or s i 0) ≡ true
@@ -66,6 +61,12 @@ module _ (p : ℕ → Bool) where
       go : (t : Bool) → p b ≡ t → (i < run p s → p (get_or s i 0) ≡ true) → p (get_or s i 0) ≡ true
       go true e k = k (le_of_suc-le-suc (rw (run_cons_on b s e) at h))
       go false e k = absurd (not-suc-le-zero (rw (run_cons_off b s e) at h))
+
+  -- what `all` answers
+  pub all_is_whole : (s : List ℕ) → list_all p s ≡ eqb (run p s) (length s)
+  unfolding run
+  all_is_whole [] = refl
+  all_is_whole (b ∷ s) = test (p b) (λ e. rw e (rw compare.suc-suc (all_is_whole s))) (λ e. rw e (sym (ne_eqb 0 (suc (length s)) (λ z. omega arith))))
 
   -- a list that passes whole, and then another
   pub run_all : (xs ys : List ℕ) → run p xs ≡ length xs → run p (xs ++ ys) ≡ length xs + run p ys

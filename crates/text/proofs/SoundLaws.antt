@@ -6,10 +6,10 @@ use Prim.Native.Nat.{ℕ, ◌+◌, ◌≤◌, ◌<◌}
 use native.Mathlib.Omega.{arith}
 use lib.Dec.{eqb, ltb}
 use lib.ListN.{length, get_or, get_or-eq_default}
-use borrow.Author.Tests.{eq-eqb, ne_eqb, ltb-false, le-ltb, lt-ltb, not-true, not-false}
+use borrow.Author.Tests.{eq-eqb, ne_eqb, ltb-false, le-ltb, not-true, not-false}
 use Rattle.verdict.specs.declared.Answer.{Answer}
+use Rattle.verdict.specs.Verdict.{rule, rule_of_each, ◌then◌, accepted}
 use Rattle.verdict.specs.Lowest.{lowest}
-use Rattle.verdict.specs.Verdict.{accepted, refused, rule, rule_of_each, ◌then◌}
 use Rattle.verdict.proofs.Verdict.{passed, unbroken, met, each_met, each_passes, then_both}
 use Rattle.verdict.proofs.Bools.{or_false, and_false, and_true}
 use Rattle.letters.specs.Class.{class_of, is_refused, is_end, is_return}
@@ -38,10 +38,6 @@ module _ (s : List ℕ) (i k : ℕ) (e : k ≡ class_of (get_or s i 0)) where
   bad_last m l = rw (← e, ne_eqb k 0 (λ z. omega arith), eq-eqb k 8 m, get_or-eq_default s 0 l, nought_no_end)
 
 -- ---- the verdict
-
-pub sound_long : (s : List ℕ) → 65536 < length s → refused 31 0 ≡ rules31to32 s
-unfolding rules31to32 rule31 rule ◌then◌
-sound_long s h = rw (lt-ltb 65536 (length s) h)
 
 pub sound_by : (s : List ℕ) (i : ℕ) (r : Answer) → length s ≤ 65536 → i ≡ lowest (length s) (bad_at s) → r ≡ rule 32 (ltb i (length s)) i → r ≡ rules31to32 s
 unfolding rules31to32 rule31 rule32 rule_of_each rule ◌then◌

@@ -232,13 +232,35 @@ line_first s from =
     (λ h. rw (line_step s from _ refl h))
     (λ h. let l : length s ≤ from = omega arith in rw (line_none s from l, line_past s from l))
 
-module _ (l : List ℕ) (from a e : ℕ) (ha : a ≡ from + run is_gap (drop from l)) (he : e ≡ a + run in_word (drop a l)) where
-  pub cursor_none : e ≡ a → words (drop from l) ≡ []
-  cursor_none h =
-      let z : run in_word (drop a l) ≡ 0 = omega arith in
-      same l from a e ha he ∙ ap words (word_none (drop a l) (no_gap l from a e ha he) z) ∙ words_nil
+-- a cursor behind the gap from a place on: it stands at no gap, and the words are the same
+module _ (l : List ℕ) (from a : ℕ) (ha : a ≡ from + run is_gap (drop from l)) where
+  pub behind_within : from ≤ length l → (from ≤ a) × (a ≤ length l)
+  behind_within h = let i = cursor_within l from a _ ha refl h in omega arith
 
-  pub cursor_more : a < e → length (words (drop from l)) ≡ suc (length (words (drop e l)))
-  cursor_more h =
-      let z : 0 < run in_word (drop a l) = omega arith in
-      rw (same l from a e ha he, word_some (drop a l) (no_gap l from a e ha he) z, at_e l from a e ha he)
+  pub behind_gap : run is_gap (drop a l) ≡ 0
+  behind_gap = no_gap l from a _ ha refl
+
+  pub behind_words : words (drop from l) ≡ words (drop a l)
+  behind_words = same l from a _ ha refl
+
+-- past the end are no words
+pub words_past : (l : List ℕ) (from : ℕ) → length l ≤ from → words (drop from l) ≡ []
+words_past l from h = rw (drop_of_length-le l h) words_nil
+
+-- where it stands in the line it stands at a word, which ends at e
+module _ (l : List ℕ) (at e : ℕ) (g : run is_gap (drop at l) ≡ 0) (he : e ≡ at + run in_word (drop at l)) (h : at < length l) where
+  some : 0 < run in_word (drop at l)
+  some =
+      decided (dec_lt 0 (run in_word (drop at l))) (λ k. k)
+      (λ k.
+      let z : run in_word (drop at l) ≡ 0 = omega arith in
+      let n : length (drop at l) ≡ 0 = ap length (word_none (drop at l) g z) in
+      absurd (omega (arith, length-drop at l)))
+
+  pub word_within : (at < e) × (e ≤ length l)
+  word_within = let k = some in omega (arith, run_le in_word (drop at l), length-drop at l)
+
+  pub word_passed : length (words (drop at l)) ≡ suc (length (words (drop e l)))
+  word_passed =
+      let d : drop e l ≡ drop (run in_word (drop at l)) (drop at l) = rw he (sym (drop-drop (run in_word (drop at l)) at l)) in
+      rw (word_some (drop at l) g some, d)

@@ -1,6 +1,8 @@
 -- Reading a text line by line: the lowest faulty line gets the first of its faults, and where no line is faulty the text may end early.
 -- A grammar says the rest. Definitions only.
-use Rattle.std.specs.Prelude.{ℕ, suc, cond, List, [], ◌∷◌, eqb, get_or}
+use Rattle.std.specs.Prelude.{ℕ, suc, cond, List, [], ◌∷◌, eqb, get_or, Result, Ok, Err}
+use Rattle.verdict.specs.Refusals.{number_of}
+use Rattle.verdict.specs.declared.Refusal.{Refusal}
 
 abbrev pub Word : Type 0
 Word = List ℕ
@@ -17,6 +19,11 @@ unfoldable pub spoken : List Line → List Line
 spoken [] = []
 spoken ([] ∷ ls) = spoken ls
 spoken ((w ∷ ws) ∷ ls) = (w ∷ ws) ∷ spoken ls
+
+-- a fault by its number, 0 for nothing
+abbrev pub fault_of : {A : Type 0} → Result A Refusal → ℕ
+fault_of (Ok _) = 0
+fault_of (Err r) = number_of r
 
 -- what is wrong with a line, 0 for nothing; the state behind a line that has no fault; what is read where no line is left, by the number
 -- of lines; and what is read where a line has a fault, by the fault and the line, counted from 1

@@ -2,17 +2,19 @@
 #![tactic(auto)]
 
 ghost use Rattle.std.specs.Prelude.{◌≡◌, true, [], ◌+◌, ◌-◌, ◌<◌, length, drop, get_or};
-ghost use Rattle.verdict.specs.Lowest.{lowest};
+ghost use Rattle.verdict.specs.Lowest.{first};
+ghost use Rattle.verdict.specs.Refusals.{verdict_of};
 ghost use Rattle.letters.specs.Class.{is_gap, is_end};
 ghost use Rattle.text.specs.Scan.{run, words, apart, lines, line_at};
 ghost use Rattle.text.specs.Sound.{bad_at, rules31to32};
 
 use letters::{class_of, is_end, is_gap};
-use verdict::Answer;
+use verdict::{Refusal, Verdict, refuse_at, refuse_if};
 
 // ---- rules 31 and 32
 
 // The byte at i is refused, or a CR not before LF.
+#[tactic(auto, using(crate::proofs::SoundLaws::bad_refused, crate::proofs::SoundLaws::bad_plain, crate::proofs::SoundLaws::bad_return, crate::proofs::SoundLaws::bad_last))]
 fn is_bad(s: &[u8], i: usize) -> bool
     requires { i < length s.now }
     ensures { result ≡ bad_at s.now i }
@@ -30,64 +32,43 @@ fn is_bad(s: &[u8], i: usize) -> bool
     true
 }
 
-// The first such byte, or the text's length.
-fn first_bad(s: &[u8]) -> usize
-    ensures { result ≡ lowest (length s.now) (bad_at s.now) }
+// The first such byte, if there is one.
+fn first_bad(s: &[u8]) -> Option<usize>
+    ensures { result ≡ first (length s.now) (bad_at s.now) }
 {
-    let mut i = 0;
-    while i < s.len() {
-        if is_bad(s, i) {
-            return i;
-        }
-        i += 1;
-    }
-    s.len()
+    (0..s.len()).find(|i| is_bad(s, *i))
 }
 
 // Rules 31 and 32: the first that is broken, or none.
-pub fn sound_verdict(s: &[u8]) -> Answer
-    ensures { result ≡ rules31to32 s.now }
+#[tactic(auto, using(verdict::proofs::Results::here, verdict::proofs::Results::past, verdict::proofs::Results::each_by_first), unfolding(crate::specs::Sound::rules31to32, crate::specs::Sound::rule31, crate::specs::Sound::rule32))]
+pub fn sound_verdict(s: &[u8]) -> Verdict
+    ensures { verdict_of result ≡ rules31to32 s.now }
 {
-    if 65536 < s.len() {
-        return Answer {
-            number: 31,
-            place: 0,
-        };
-    }
-    let i = first_bad(s);
-    verdict::first_rule(32, i < s.len(), i as u32)
+    refuse_if(65536 < s.len(), Refusal::TextLength, 0)?;
+    refuse_at(first_bad(s), Refusal::TextByte)
 }
 
 // ---- words and lines
+
+// The bytes from `at` on, none past the end.
+pub fn rest(s: &[u8], at: usize) -> &[u8]
+    ensures { result.now ≡ drop at s.now }
+{
+    &s[at.min(s.len())..]
+}
 
 // The end of the gap that starts at `at`.
 pub fn skip_gap(l: &[u8], at: usize) -> usize
     ensures { result ≡ at + run is_gap (drop at l.now) }
 {
-    let mut a = at;
-    while a < l.len() {
-        if is_gap(l[a]) {
-            a += 1;
-        } else {
-            return a;
-        }
-    }
-    a
+    at + rest(l, at).iter().take_while(|b| is_gap(**b)).count()
 }
 
 // The end of the word that starts at `at`.
 fn skip_word(l: &[u8], at: usize) -> usize
     ensures { result ≡ at + run (apart is_gap) (drop at l.now) }
 {
-    let mut e = at;
-    while e < l.len() {
-        if is_gap(l[e]) {
-            return e;
-        } else {
-            e += 1;
-        }
-    }
-    e
+    at + rest(l, at).iter().take_while(|b| !is_gap(**b)).count()
 }
 
 // Word k of a line, empty where the line has fewer.
@@ -95,11 +76,9 @@ pub fn word(l: &[u8], k: usize) -> &[u8]
     ensures { result.now ≡ get_or (words l.now) k [] }
 {
     let mut at = 0;
-    let mut i = 0;
-    while i < k {
+    for _ in 0..k {
         let b = skip_gap(l, at);
         at = skip_word(l, b);
-        i += 1;
     }
     let a = skip_gap(l, at);
     let e = skip_word(l, a);
@@ -110,15 +89,12 @@ pub fn word(l: &[u8], k: usize) -> &[u8]
 pub fn word_count(l: &[u8]) -> usize
     ensures { result ≡ length (words l.now) }
 {
-    let mut at = 0;
+    let mut at = skip_gap(l, 0);
     let mut n = 0;
+    // A walk by words stays a `while`: an iterator over words would be a struct of our own, no plainer than this.
     while at < l.len() {
-        let b = skip_gap(l, at);
-        let e = skip_word(l, b);
-        if e == b {
-            return n;
-        }
-        at = e;
+        let e = skip_word(l, at);
+        at = skip_gap(l, e);
         n += 1;
     }
     n
@@ -128,18 +104,11 @@ pub fn word_count(l: &[u8]) -> usize
 pub fn line_end(s: &[u8], at: usize) -> usize
     ensures { result ≡ at + run (apart is_end) (drop at s.now) }
 {
-    let mut lf = at;
-    while lf < s.len() {
-        if is_end(s[lf]) {
-            return lf;
-        } else {
-            lf += 1;
-        }
-    }
-    lf
+    at + rest(s, at).iter().take_while(|b| !is_end(**b)).count()
 }
 
 // The line that starts at a place, empty past the end.
+#[tactic(auto, using(crate::proofs::SplitLaws::piece_within, crate::proofs::SplitLaws::line_past), unfolding(crate::specs::Scan::line_at))]
 pub fn line_at(s: &[u8], at: usize) -> &[u8]
     ensures { result.now ≡ line_at s.now at }
 {
@@ -155,13 +124,11 @@ pub fn line(s: &[u8], k: usize) -> &[u8]
     ensures { result.now ≡ get_or (lines s.now) k [] }
 {
     let mut at = 0;
-    let mut i = 0;
-    while i < k {
+    for _ in 0..k {
         if s.len() <= at {
             return &s[..0];
         }
         at = line_end(s, at) + 1;
-        i += 1;
     }
     line_at(s, at)
 }

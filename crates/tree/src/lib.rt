@@ -2,7 +2,8 @@
 #![tactic(auto)]
 
 ghost use Rattle.std.specs.Prelude.{◌≡◌, not, ◌&&◌, ◌<◌, ◌≤◌, length};
-ghost use Rattle.verdict.specs.Lowest.{lowest};
+ghost use Rattle.verdict.specs.Lowest.{first};
+ghost use Rattle.verdict.specs.Refusals.{verdict_of};
 ghost use Rattle.verdict.specs.Lists.{once};
 ghost use Rattle.verdict.specs.Memory.{work_size, SamePast, fresh, marked};
 ghost use Rattle.tables.specs.Header.{RightHeader};
@@ -16,7 +17,7 @@ ghost use Rattle.tree.specs.Boxes.{box_of, vertex_float, holds_corner, holds_fac
 ghost use Rattle.tree.specs.Trail.{trail};
 
 use boxes::Box;
-use verdict::Answer;
+use verdict::{Refusal, Verdict, refuse_at, refuse_if};
 
 // The most steps from the root to a node.
 const DEPTH: usize = 64;
@@ -53,9 +54,7 @@ fn mark_faces(bytes: &[u8], work: &mut [u8]) -> bool
     ensures answer { result ≡ fresh (leaf_faces (nodes_of (parts_of bytes.now)) (face_of (parts_of bytes.now)) (parts_of bytes.now).nodes) work.old }
     ensures marks { work.new ≡ marked (leaf_faces (nodes_of (parts_of bytes.now)) (face_of (parts_of bytes.now)) (parts_of bytes.now).nodes) work.old }
 {
-    let nodes = nodes::node_count(bytes);
-    let mut n = 0;
-    while n < nodes {
+    for n in 0..nodes::node_count(bytes) {
         if !nodes::is_inner_node(bytes, n) {
             let f = nodes::face_of(bytes, n);
             if work[f] != 0 {
@@ -63,7 +62,6 @@ fn mark_faces(bytes: &[u8], work: &mut [u8]) -> bool
             }
             work[f] = 1;
         }
-        n += 1;
     }
     true
 }
@@ -113,6 +111,7 @@ fn one_tree(bytes: &[u8], work: &mut [u8]) -> bool
 }
 
 // Node n's box.
+#[tactic(auto, using(crate::proofs::Held::node_finite), unfolding(crate::specs::Boxes::box_of))]
 pub fn box_of(bytes: &[u8], n: usize) -> Box
     requires finite { Finite (parts_of bytes.now) }
     requires below { RightHeader bytes.now × (n < (parts_of bytes.now).nodes) }
@@ -128,6 +127,7 @@ pub fn box_of(bytes: &[u8], n: usize) -> Box
 }
 
 // Whether a box holds vertex v.
+#[tactic(auto, using(crate::proofs::Held::vertex_finite))]
 fn holds_vertex(bytes: &[u8], own: Box, v: usize) -> bool
     requires finite { Finite (parts_of bytes.now) }
     requires below { RightHeader bytes.now × (v < (parts_of bytes.now).vertices) }
@@ -140,6 +140,7 @@ fn holds_vertex(bytes: &[u8], own: Box, v: usize) -> bool
 }
 
 // Whether node n's box holds corner e of face f.
+#[tactic(auto, unfolding(crate::specs::Boxes::holds_corner))]
 fn holds_corner(bytes: &[u8], n: usize, f: usize, e: usize) -> bool
     requires sound { Finite (parts_of bytes.now) × Cornered (parts_of bytes.now) }
     requires below { RightHeader bytes.now × (n < (parts_of bytes.now).nodes) × (f < (parts_of bytes.now).faces) × (e < 3) }
@@ -156,17 +157,11 @@ fn holds_face(bytes: &[u8], n: usize, f: usize) -> bool
     requires below { RightHeader bytes.now × (n < (parts_of bytes.now).nodes) × (f < (parts_of bytes.now).faces) × (f ≡ face_of (parts_of bytes.now) n) }
     ensures { result ≡ holds_face (parts_of bytes.now) n }
 {
-    let mut e = 0;
-    while e < 3 {
-        if !holds_corner(bytes, n, f, e) {
-            return false;
-        }
-        e += 1;
-    }
-    true
+    (0..3).all(|e| holds_corner(bytes, n, f, e))
 }
 
 // Whether an inner node's box holds both children's.
+#[tactic(auto, using(crate::proofs::Held::no_left, crate::proofs::Held::by_right))]
 fn holds_children(bytes: &[u8], n: usize) -> bool
     requires sound { Finite (parts_of bytes.now) }
     requires below { RightHeader bytes.now × (n < (parts_of bytes.now).nodes) × (left_of (parts_of bytes.now) n < (parts_of bytes.now).nodes) × (right_of (parts_of bytes.now) n < (parts_of bytes.now).nodes) }
@@ -182,6 +177,7 @@ fn holds_children(bytes: &[u8], n: usize) -> bool
 }
 
 // Whether a node's box is too small.
+#[tactic(auto, using(crate::proofs::Held::small_inner, crate::proofs::Held::small_leaf))]
 fn too_small(bytes: &[u8], n: usize) -> bool
     requires sound { Finite (parts_of bytes.now) × Cornered (parts_of bytes.now) × Closed (parts_of bytes.now) }
     requires below { RightHeader bytes.now × (n < (parts_of bytes.now).nodes) }
@@ -193,32 +189,23 @@ fn too_small(bytes: &[u8], n: usize) -> bool
     !holds_face(bytes, n, nodes::face_of(bytes, n))
 }
 
-// The lowest node whose box is too small, or the node count.
-fn first_small(bytes: &[u8]) -> usize
+// The lowest node whose box is too small.
+fn first_small(bytes: &[u8]) -> Option<usize>
     requires sound { Finite (parts_of bytes.now) × Cornered (parts_of bytes.now) × Closed (parts_of bytes.now) }
     requires header { RightHeader bytes.now }
-    ensures { (result ≡ lowest (parts_of bytes.now).nodes (too_small (parts_of bytes.now))) × (result ≤ 8191) }
+    ensures { result ≡ first (parts_of bytes.now).nodes (too_small (parts_of bytes.now)) }
 {
-    let nodes = nodes::node_count(bytes);
-    let mut n = 0;
-    while n < nodes {
-        if too_small(bytes, n) {
-            return n;
-        }
-        n += 1;
-    }
-    nodes
+    (0..nodes::node_count(bytes)).find(|n| too_small(bytes, *n))
 }
 
 // Rules 13 and 14 of a floor whose rules 7 to 12 were accepted.
-pub fn tree_verdict(bytes: &[u8], work: &mut [u8]) -> Answer
+#[tactic(auto, using(verdict::proofs::Results::here, verdict::proofs::Results::past, verdict::proofs::Results::each_by_first), unfolding(crate::specs::Tree::rule13, crate::specs::Boxes::rule14, crate::specs::Boxes::rules13to14))]
+pub fn tree_verdict(bytes: &[u8], work: &mut [u8]) -> Verdict
     requires sound { Finite (parts_of bytes.now) × Cornered (parts_of bytes.now) × Closed (parts_of bytes.now) }
     requires room { RightHeader bytes.now × (work_size ≤ length work.old) }
-    ensures answer { result ≡ rules13to14 (parts_of bytes.now) }
+    ensures answer { verdict_of result ≡ rules13to14 (parts_of bytes.now) }
     ensures memory { SamePast work.new work.old }
 {
-    let whole = one_tree(bytes, work);
-    let a = verdict::first_rule(13, !whole, 0);
-    let n = first_small(bytes);
-    verdict::then_rule(a, 14, n < nodes::node_count(bytes), n as u32)
+    refuse_if(!one_tree(bytes, work), Refusal::OneTree, 0)?;
+    refuse_at(first_small(bytes), Refusal::Box)
 }

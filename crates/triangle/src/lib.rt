@@ -15,6 +15,7 @@ pub fn cross_of(ax: i64, ay: i64, bx: i64, by: i64, px: i64, py: i64) -> i64
     left - right
 }
 
+#[tactic(auto, using(wire::proofs::Signed::under, crate::proofs::Triangle::left_no, crate::proofs::Triangle::left_no_2, crate::proofs::Triangle::left_last))]
 fn all_left(d: i64, e: i64, f: i64) -> bool
     ensures { result ≡ all_left d e f }
 {

@@ -8,4 +8,6 @@ pub mod Marks
 pub mod Once
 pub mod Memory
 pub mod Output
+pub mod Found
+pub mod Results
 pub mod Chain

@@ -1,6 +1,6 @@
 -- The laws of `lowest`, `any_under` and `all_under`: what a loop that looks upward has to show, and what its answer tells. Assumes nothing.
 use mathlib.Core.Path.{◌≡◌, refl, sym, ◌∙◌, ap, subst}
-use mathlib.Core.Bool.{Bool, true, false, not}
+use mathlib.Core.Bool.{Bool, true, false, not, ◌&&◌}
 use mathlib.Core.Logic.{◌⊎◌, inl, inr, ⊎_elim}
 use Prim.Native.Nat.{ℕ, zero, suc, ◌+◌, ◌<◌, ◌≤◌}
 use native.Mathlib.Nat.{eq-or-lt_of_le, le_of_suc-le-suc}
@@ -134,6 +134,14 @@ any_same n p q h = rw (lowest_same_lem n p q h)
 
 -- ---- whether each passes
 
+and_true : (b : Bool) → (b && true) ≡ b
+and_true true = refl
+and_true false = refl
+
+and_false : (b : Bool) → (b && false) ≡ false
+and_false true = refl
+and_false false = refl
+
 module _ (p : ℕ → Bool) where
   pub all_true : (n : ℕ) → all_under n p ≡ true → (k : ℕ) → k < n → p k ≡ true
   unfolding all_under
@@ -154,6 +162,14 @@ module _ (p : ℕ → Bool) where
   pub all_more : (i : ℕ) → p i ≡ true → all_under i p ≡ all_under (i + 1) p
   unfolding all_under
   all_more i e = rw add-one (ap not (sym (any_more (λ k. not (p k)) i (not_of_true (p i) e))))
+
+  -- one number more
+  pub all_next : (i : ℕ) → (all_under i p && p i) ≡ all_under (i + 1) p
+  all_next i = by (p i) refl
+    where
+      by : (t : Bool) → p i ≡ t → (all_under i p && t) ≡ all_under (i + 1) p
+      by true e = and_true (all_under i p) ∙ all_more i e
+      by false e = and_false (all_under i p) ∙ all_fails i e
 
   -- a loop that looks for one that fails
   pub all_hit : (i n : ℕ) → lowest i (λ k. not (p k)) ≡ i → p i ≡ false → i < n → false ≡ all_under n p

@@ -3,3 +3,4 @@ pub mod Lists
 pub mod Verdict
 pub mod Memory
 pub mod Output
+pub mod Refusals

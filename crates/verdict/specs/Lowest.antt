@@ -1,5 +1,5 @@
 -- The lowest number of which a test holds: how every rule that names a place finds it; and the highest. Definitions only.
-use Rattle.std.specs.Prelude.{ℕ, zero, suc, ◌<◌, ◌≤◌, ◌≡◌, Bool, true, false, cond, not, ltb}
+use Rattle.std.specs.Prelude.{ℕ, zero, suc, ◌<◌, ◌≤◌, ◌≡◌, Bool, true, false, cond, not, ltb, Option, Some, None}
 
 -- the lowest number under n of which the test holds, or n where there is none
 unfoldable pub lowest : ℕ → (ℕ → Bool) → ℕ
@@ -12,6 +12,10 @@ any_under n p = ltb (lowest n p) n
 
 unfoldable pub all_under : ℕ → (ℕ → Bool) → Bool
 all_under n p = not (any_under n (λ k. not (p k)))
+
+-- the lowest number under n of which the test holds, if there is one
+unfoldable pub first : ℕ → (ℕ → Bool) → Option ℕ
+first n p = cond (any_under n p) (Some (lowest n p)) None
 
 -- "the lowest such", as a plain statement: k is at most n; the test holds of k, where k is under n, and of none below k
 pub record IsLowest (p : ℕ → Bool) (n k : ℕ) : Type 0 where

@@ -33,6 +33,7 @@ fn four_bytes(bytes: &[u8], at: usize) -> u32
 }
 
 // The number at a place.
+#[tactic(auto, unfolding(crate::specs::Bytes::u32_at))]
 pub fn u32_at(bytes: &[u8], at: usize) -> u32
     requires { at + 4 ≤ length bytes.now }
     ensures { result ≡ u32_at bytes.now at }
@@ -41,6 +42,7 @@ pub fn u32_at(bytes: &[u8], at: usize) -> u32
 }
 
 // The number written at a place; every other byte stays.
+#[tactic(auto, using(crate::proofs::Numbers::stores))]
 pub fn put_u32(bytes: &mut [u8], at: usize, w: u32)
     requires { at + 4 ≤ length bytes.old }
     ensures { bytes.new ≡ put_u32 bytes.old at w }
@@ -52,6 +54,7 @@ pub fn put_u32(bytes: &mut [u8], at: usize, w: u32)
 }
 
 // The number of two bytes at a place.
+#[tactic(auto, unfolding(crate::specs::Bytes::u16_at))]
 pub fn u16_at(bytes: &[u8], at: usize) -> usize
     requires { at + 2 ≤ length bytes.now }
     ensures { (result ≡ u16_at bytes.now at) × (result < 65536) }
@@ -62,6 +65,7 @@ pub fn u16_at(bytes: &[u8], at: usize) -> usize
 }
 
 // The two lowest bytes of a number written at a place; every other byte stays.
+#[tactic(auto, using(crate::proofs::Short::two_stores))]
 pub fn put_u16(bytes: &mut [u8], at: usize, n: usize)
     requires { at + 2 ≤ length bytes.old }
     ensures { bytes.new ≡ put_u16 bytes.old at n }

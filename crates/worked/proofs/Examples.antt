@@ -27,7 +27,7 @@ use Rattle.tables.specs.Header.{wrong_length, field_rules, header_rules, header_
 use Rattle.tables.specs.Parts.{parts_of, table_words, word_of, word_place}
 use Rattle.tables.specs.Fixed.{start_of, form_of}
 use Rattle.tables.proofs.Right.{wrong_long}
-use Rattle.mesh.specs.Floats.{wild, wild_head, wild_in, rule7_in, rule7}
+use Rattle.mesh.specs.Floats.{wild, wild_head, wild_in, rule7_in, rule7_head, rule7}
 use Rattle.mesh.specs.Faces.{wrong_corner, wrong_corners, walkable, strange, misplaced, rule8, rule9, rule10}
 use Rattle.nodes.specs.Nodes.{nodes_of, is_plane, is_leaf, is_inner, neither, stray_root, rule11, rule12}
 use Rattle.tree.specs.Tree.{ends, deep, leaf_faces, one_tree, rule13}
@@ -125,7 +125,7 @@ unfolding worked triangle square tested quick gives same
     bytes_of u32_bytes u32_at words_at rule rule_of_each ◌then◌ lowest any_under all_under times tally once
     rewrite_answer rewrite_memory rewrite_verdict fixed_form form_answer form_memory over form_of start_of joined
     reader_answer answer_of reader_verdict reader_rules early_rules part_rules walkable_faces rule20 rule1 rule2 rule3 rule4 limit rule5 rule6 wrong_length starts_wrong differs outside_at outside span_of shares shares_earlier
-    parts_of table_words word_of word_place rule7 rule7_in wild wild_head wild_in finite of_bits rule8 wrong_corners wrong_corner rule9 strange rule10 misplaced walkable
+    parts_of table_words word_of word_place rule7 rule7_in rule7_head wild wild_head wild_in finite of_bits rule8 wrong_corners wrong_corner rule9 strange rule10 misplaced walkable
     rule11 stray_root rule12 neither is_leaf is_inner is_plane nodes_of rule13 one_tree deep ends leaf_faces rule14 too_small holds_children holds_face holds_corner box_of box_of_bits holds_point holds_box between none_over le lt eq
     rule15 rule16 repeats partner runs from to wrong_adjacent pairing border rule17 stands_in wrong_edge missing rule18 wrong_transition rule19 wrong_loop loop_start open_run open_at after
     point_answer point_of reply_of query_verdict query_rules rule29 rule30 off_grid lowest_face face_holds corner_at box_holds holds_xy visited_nodes visited_count visited shown above

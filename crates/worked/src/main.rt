@@ -41,7 +41,7 @@ fn said(rt: &impl Print, yes: bool) -> io::Result<()> {
 // What rules 1 to 6 answer of the first n bytes.
 fn first(rt: &impl Print, bytes: &[u8], n: usize) -> io::Result<()> {
     if n <= bytes.len() {
-        return told(rt, header::header_verdict(&bytes[..n]));
+        return told(rt, Answer::from(header::header_verdict(&bytes[..n])));
     }
     Ok(())
 }
@@ -85,9 +85,9 @@ fn headers(rt: &impl Print) -> io::Result<()> {
 }
 
 fn nudged(rt: &impl Print, bits: u32, step: i64) -> io::Result<()> {
-    let a = grid::nudge(bits, step);
-    said(rt, a.ok)?;
-    number(rt, a.bits)?;
+    let moved = grid::nudge(bits, step);
+    said(rt, moved.is_some())?;
+    number(rt, moved.unwrap_or(bits))?;
     end(rt)
 }
 
@@ -126,6 +126,7 @@ fn read_full(mut input: Stdin, bytes: &mut [u8]) -> io::Result<usize>
     ensures { IfOk result (λ n. n ≤ length bytes.new) }
 {
     let mut done = 0;
+    // No count: reading ends where the input does, or where there is no room.
     while done < bytes.len() {
         let n = input.read(&mut bytes[done..])?;
         if n == 0 {

@@ -54,16 +54,14 @@ fn wide(s: &[u8], i: usize) -> usize
 // A line with its bytes as they are meant, as far as there is room; how many there are.
 fn spelled(s: &[u8], out: &mut [u8]) -> usize {
     let mut i = 0;
-    let mut n = 0;
-    while i < s.len() {
-        if n == out.len() {
+    for (n, o) in out.iter_mut().enumerate() {
+        if s.len() <= i {
             return n;
         }
-        out[n] = byte_at(s, i);
+        *o = byte_at(s, i);
         i += wide(s, i);
-        n += 1;
     }
-    n
+    out.len()
 }
 
 // A whole number below 65,536, 0 where there is none.
@@ -279,13 +277,11 @@ fn run(rt: &impl Print, s: &[u8], k: usize) -> io::Result<()>
 
 // All cases, up to one without a call.
 pub(crate) fn all(rt: &impl Print, s: &[u8]) -> io::Result<()> {
-    let mut k: usize = 0;
-    while k < 1000 {
-        if line(s, 8 * k).len() == 0 {
+    for k in 0..1000 {
+        if line(s, 8 * k).is_empty() {
             return Ok(());
         }
         run(rt, s, k)?;
-        k += 1;
     }
     Ok(())
 }

@@ -9,6 +9,7 @@ use lib.Seq.{length-take-le}
 use Rattle.text.specs.Written.{ended, spaced, after}
 use Rattle.printer.proofs.WriteLaws.{wrote_long}
 use Rattle.layout.specs.Grammar.{beginlayout, roomcount, trackcount, obstaclecount, doorhookcount, donelayout}
+use Rattle.layout.specs.Starts.{told_layout}
 use Rattle.layoutform.proofs.WholeLaws.{part_is, kept_rooms, kept_tracks, kept_obstacles, kept_hooks, old_right, form_wrote}
 use Rattle.layoutform.proofs.print.put_form.Statement.{statement}
 use Rattle.layoutform.proofs.print.put_form.Tie as tie
@@ -71,7 +72,7 @@ put_section_requires c κs =
     let k = c.before.before.before.before.before.before in
     let o = old_of k in
     let g = start_of o in
-    ((omega (arith, first k), (omega arith, g.requires.1)), (old_right g.args.s.now g.args.r (sized g) g.requires.0 _ _ o.room_name-old.ensures, kept_rooms _ _ (sized g) g.requires.0))
+    ((omega (arith, first k), (omega arith, g.requires.1)), (old_right g.args.s.now (told_layout g.args.r) (sized g) g.requires.0 _ _ o.room_name-old.ensures, kept_rooms _ _ (sized g) g.requires.0))
 
 part_put_section_end : tie.Need-slice_bounds-put_section-end-4
 part_put_section_end c = let r = c.before.before.before.before.before in omega (arith, sized (start_of (old_of (key_of r))))
@@ -103,7 +104,7 @@ put_section_requires_4 c κs =
     let o = c.before.before.before.before.before.before in
     let n = old_of (key_of (rooms_of (tracks_of o))) in
     let g = start_of n in
-    ((omega (arith, obstacles o), (omega arith, g.requires.1)), (old_right g.args.s.now g.args.r (sized g) g.requires.0 _ _ n.room_name-old.ensures, rw (part_is _ _ (sized g) g.requires.0 192 64 (omega arith)) (kept_hooks _ _ (sized g) g.requires.0)))
+    ((omega (arith, obstacles o), (omega arith, g.requires.1)), (old_right g.args.s.now (told_layout g.args.r) (sized g) g.requires.0 _ _ n.room_name-old.ensures, rw (part_is _ _ (sized g) g.requires.0 192 64 (omega arith)) (kept_hooks _ _ (sized g) g.requires.0)))
 
 put_key_requires_2 : tie.Need-put_key-requires
 put_key_requires_2 c κs = let h = c.before.before.before.before.before in (omega (arith, hooks h), omega arith)
@@ -119,7 +120,7 @@ returns c =
     let k = key_of r in
     let n = old_of k in
     let g = start_of n in
-    form_wrote g.args.s.now g.args.r (sized g) g.requires.0 g.args.i _ n.room_name-old.ensures g.args.name.now
+    form_wrote g.args.s.now (told_layout g.args.r) (sized g) g.requires.0 g.args.i _ n.room_name-old.ensures g.args.name.now
     k.put_key-a.ensures r.put_section-b.ensures.0 t.put_section-c.ensures.0 o.put_section-d.ensures.0 h.put_section-e.ensures.0 d.put_key.ensures
 
 pub put_form_spec : {M : Type 1} → statement M

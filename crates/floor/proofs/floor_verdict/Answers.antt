@@ -1,0 +1,8 @@
+-- What rules 1 to 14 leave for the half-edges.
+use Rattle.std.proofs.Common.{arith}
+use Rattle.verdict.proofs.Results.{accepts}
+use Rattle.floor.proofs.Meaning.{early_met}
+use Rattle.floor.proofs.floor_verdict.Goals as goal
+
+pub borders_verdict-requires : goal.borders_verdict-requires
+borders_verdict-requires c = ((early_met _ (accepts c.in_ok-rules_1_to_14.ensures.answer)).header, omega arith)

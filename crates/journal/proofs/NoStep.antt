@@ -1,0 +1,53 @@
+-- 26 is the number of one refusal alone. Assumes nothing.
+use mathlib.Core.Path.{◌≡◌, refl}
+use native.Mathlib.Omega.{arith}
+use Rattle.verdict.specs.declared.Refusal.{Refusal}
+use Rattle.verdict.specs.declared.Refusal.TheVariants.{Length, FirstBytes, WorldCoords, Count, TableOutside, TablesShare, NotFinite, Corner, Material, WalkableFirst, NodeCount, NodeKind, OneTree, Box, RunsTwice, Adjacency, EdgeEntry, Transition, Perimeter, WorkMemory, NoSuchPlace, Paint, Link, Nudge, JournalFull, NoStep, Record, Session, PointBeyond, VertexOffGrid, TextLength, TextByte, TextLine, Name, TextNumber, TextCount, NameTwice, TextEnds, UnknownRoom, OutputShort, NoCaption, LinkNowhere, Blocked, Bench, HasTree}
+use Rattle.verdict.specs.Refusals.{number_of}
+
+pub no_step : (r : Refusal) → number_of r ≡ 26 → r ≡ NoStep
+no_step Length e = absurd (omega (arith, e))
+no_step FirstBytes e = absurd (omega (arith, e))
+no_step WorldCoords e = absurd (omega (arith, e))
+no_step Count e = absurd (omega (arith, e))
+no_step TableOutside e = absurd (omega (arith, e))
+no_step TablesShare e = absurd (omega (arith, e))
+no_step NotFinite e = absurd (omega (arith, e))
+no_step Corner e = absurd (omega (arith, e))
+no_step Material e = absurd (omega (arith, e))
+no_step WalkableFirst e = absurd (omega (arith, e))
+no_step NodeCount e = absurd (omega (arith, e))
+no_step NodeKind e = absurd (omega (arith, e))
+no_step OneTree e = absurd (omega (arith, e))
+no_step Box e = absurd (omega (arith, e))
+no_step RunsTwice e = absurd (omega (arith, e))
+no_step Adjacency e = absurd (omega (arith, e))
+no_step EdgeEntry e = absurd (omega (arith, e))
+no_step Transition e = absurd (omega (arith, e))
+no_step Perimeter e = absurd (omega (arith, e))
+no_step WorkMemory e = absurd (omega (arith, e))
+no_step NoSuchPlace e = absurd (omega (arith, e))
+no_step Paint e = absurd (omega (arith, e))
+no_step Link e = absurd (omega (arith, e))
+no_step Nudge e = absurd (omega (arith, e))
+no_step JournalFull e = absurd (omega (arith, e))
+no_step NoStep e = refl
+no_step Record e = absurd (omega (arith, e))
+no_step Session e = absurd (omega (arith, e))
+no_step PointBeyond e = absurd (omega (arith, e))
+no_step VertexOffGrid e = absurd (omega (arith, e))
+no_step TextLength e = absurd (omega (arith, e))
+no_step TextByte e = absurd (omega (arith, e))
+no_step TextLine e = absurd (omega (arith, e))
+no_step Name e = absurd (omega (arith, e))
+no_step TextNumber e = absurd (omega (arith, e))
+no_step TextCount e = absurd (omega (arith, e))
+no_step NameTwice e = absurd (omega (arith, e))
+no_step TextEnds e = absurd (omega (arith, e))
+no_step UnknownRoom e = absurd (omega (arith, e))
+no_step OutputShort e = absurd (omega (arith, e))
+no_step NoCaption e = absurd (omega (arith, e))
+no_step LinkNowhere e = absurd (omega (arith, e))
+no_step Blocked e = absurd (omega (arith, e))
+no_step Bench e = absurd (omega (arith, e))
+no_step HasTree e = absurd (omega (arith, e))

@@ -1,0 +1,11 @@
+-- What `find` answers, where each look answers the test.
+use Rattle.std.proofs.Common.{rules, tests, ap, ◌∙◌, ℕ}
+use Rattle.verdict.specs.Lowest.{first}
+use Rattle.tables.specs.Parts.{parts_of}
+use Rattle.mesh.specs.Faces.{wrong_corners}
+use Rattle.verdict.proofs.Found.{find_is_first}
+use Rattle.mesh.proofs.first_cornered.Goals as goal
+
+pub returns : goal.returns
+returns c = find_is_first (wrong_corners (parts_of c.args.bytes.now)) _ _ _ _ c.find.ensures.ran (λ x b q k. search (rules, tests))
+    ∙ ap (λ (n : ℕ). first n (wrong_corners (parts_of c.args.bytes.now))) c.count_of.ensures.0

@@ -1,0 +1,11 @@
+-- At every turn of the loop the lines that are left say what all do.
+use Rattle.std.proofs.Common.{length, ◌-◌}
+use Rattle.sight.specs.Code.{kept_names}
+use Rattle.sight.proofs.TurnLaws.{Reader}
+use Rattle.sight.proofs.read_lines.Given as goal
+
+abbrev pub invariant-loop-at : goal.invariant-loop-at
+invariant-loop-at l = Reader (kept_names l.layout l.starts l.n) l.s l.rows l.st l.passed l.at
+
+abbrev pub decreases-loop-at : goal.decreases-loop-at
+decreases-loop-at l = length l.s - l.at
