@@ -1,12 +1,12 @@
--- What chains over the records' numbers answer, where the closure computes a test: how many pass, the highest that passes, and whether one
--- behind a number does. Assumes nothing.
+-- What chains over the records' numbers answer, where the closure computes a test: the highest that passes, and whether one behind a
+-- number does. Assumes nothing.
 use mathlib.Core.Path.{◌≡◌, refl, sym, ap, subst, ◌∙◌}
 use mathlib.Core.Bool.{Bool, true, false, cond}
-use mathlib.Core.List.{List, [], ◌∷◌, ◌++◌}
+use mathlib.Core.List.{List, [], ◌∷◌}
 use Prim.Native.Nat.{ℕ, zero, suc, ◌+◌, ◌-◌, ◌<◌, ◌≤◌}
 use native.Mathlib.Omega.{arith}
 use native.Mathlib.Decide.{dec_lt}
-use lib.ListN.{length, get_or, length-append}
+use lib.ListN.{length, get_or}
 use lib.Dec.{eqb}
 use borrow.Author.Tests.{eq-eqb, ne_eqb}
 use denote.Ref.{Bor}
@@ -14,44 +14,23 @@ use denote.Param.Members.{Mut}
 use Rattle.std.specs.declared.option.Option.{Option}
 use Rattle.std.specs.declared.option.Option.TheVariants.{None, Some}
 use Rattle.std.specs.declared.ops.Range.{Range}
-use Rattle.std.specs.declared.iter.Filter.{Filter}
 use Rattle.std.specs.declared.iter.Rev.{Rev}
 use Rattle.std.specs.Bool.{MatchBool, ⊤}
 use Rattle.std.specs.Fn.{Called, CalledAt}
-use Rattle.std.specs.Iterator.{Drains, YieldsThen}
-use Rattle.std.specs.Iterator.Adapters.{filter_source, filter_callee, filter_steps, rev_source, rev_steps}
-use Rattle.std.specs.List.{filter, range_with_len, FoldsTo, HoldsAt, AllWithin}
+use Rattle.std.specs.Iterator.{YieldsThen}
+use Rattle.std.specs.Iterator.Adapters.{rev_source, rev_steps}
+use Rattle.std.specs.List.{range_with_len, FoldsTo, HoldsAt, AllWithin}
 use Rattle.std.specs.Option.{MatchOption}
 use Rattle.std.proofs.iter.Yields.{nat_range_steps}
 use Rattle.std.proofs.lemmas.Iterator.{YieldsList, YieldsList-from_range, cases_from_any, first_from_find}
-use Rattle.std.proofs.lemmas.Iterator.Consumers.{YieldsList-at, YieldsList-from_filter, YieldsList-from_shown, count_from_yields_List}
-use Rattle.std.proofs.lemmas.List.{map-id}
-use Rattle.std.proofs.lemmas.List.FromFn.{filter_of_map_range_with_len_more, length-range_with_len, get_or-range_with_len}
-use Rattle.verdict.specs.Lists.{bit, tally}
+use Rattle.std.proofs.lemmas.Iterator.Consumers.{YieldsList-from_shown}
+use Rattle.std.proofs.lemmas.List.FromFn.{length-range_with_len, get_or-range_with_len}
+use Rattle.verdict.specs.Lists.{tally}
 use Rattle.verdict.specs.Lowest.{any_under, highest}
-use Rattle.verdict.proofs.Bools.{clash, test, decided}
+use Rattle.verdict.proofs.Bools.{clash, decided}
 use Rattle.verdict.proofs.Lists.{tally_none, none_tally}
 use Rattle.verdict.proofs.Lowest.{under_none, some_under}
 use Rattle.verdict.proofs.Highest.{highest_only}
-
--- ---- `(0..n).filter(..).count()`
-
-module _ (p : ℕ → Bool) where
-  passed : (n : ℕ) → length (filter p (range_with_len 0 n)) ≡ tally n p
-  unfolding tally
-  passed zero = refl
-  passed (suc n) =
-      let e : n + 1 ≡ suc n = omega arith in
-      let more : filter p (range_with_len 0 (n + 1)) ≡ filter p (range_with_len 0 n) ++ cond (p n) (n ∷ []) [] = simp map-id at (filter_of_map_range_with_len_more p (λ x. x) 0 n n (omega arith)) in
-      subst (λ (m : ℕ). length (filter p (range_with_len 0 m)) ≡ bit (p n) + tally n p) e
-      (rw (more, length-append (filter p (range_with_len 0 n)) (cond (p n) (n ∷ []) []))
-      (test (p n) (λ y. rw y (omega (arith, passed n))) (λ y. rw y (omega (arith, passed n)))))
-
-  pub count_is_tally : {F : Type 0} {g : Mut F (Bor ℕ × Unit {0}) Bool} (n : ℕ) (s : Filter (Range ℕ) F) (c : ℕ) (f : F)
-      → (xs : List ℕ) × Drains (filter_steps nat_range_steps g) s xs × (c ≡ length xs) → filter_source s ≡ record { start = 0; end = n } → filter_callee s ≡ f
-      → ((x : ℕ) (b : Bool) (q : F) → CalledAt g f x b q → (q ≡ f) × (b ≡ p x)) → c ≡ tally n p
-  count_is_tally {g = g} n s c f ran from by does =
-      count_from_yields_List s c ran (YieldsList-from_filter g p (YieldsList-at from (YieldsList-from_range 0 n n refl (omega arith))) by does) ∙ passed n
 
 -- ---- `(0..n).rev().find(..)`
 
