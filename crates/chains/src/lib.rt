@@ -20,7 +20,7 @@ pub fn mixed<const CHAINS: usize>(a: usize, b: usize) -> usize
 // The last number of chain v, if it has one.
 pub fn last_of(work: &[u8], v: usize) -> Option<usize>
     requires { last_place v + 2 ≤ length work.now }
-    ensures { one_more result ≡ u16_at work.now (last_place v) }
+    ensures { (one_more result ≡ u16_at work.now (last_place v)) × (one_more result < 65536) }
 {
     wire::u16_at(work, 2 * v).checked_sub(1)
 }
@@ -28,7 +28,7 @@ pub fn last_of(work: &[u8], v: usize) -> Option<usize>
 // The number before h in its chain, if there is one; there are n chains.
 pub fn before_of(work: &[u8], n: usize, h: usize) -> Option<usize>
     requires { before_place n h + 2 ≤ length work.now }
-    ensures { one_more result ≡ u16_at work.now (before_place n h) }
+    ensures { (one_more result ≡ u16_at work.now (before_place n h)) × (one_more result < 65536) }
 {
     wire::u16_at(work, 2 * (n + h)).checked_sub(1)
 }

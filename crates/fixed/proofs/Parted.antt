@@ -5,10 +5,8 @@ use Prim.Native.Nat.{ℕ, zero, suc, ◌+◌, ◌*◌, ◌-◌, ◌≤◌, ◌<�
 use native.Mathlib.Numerals.{add-one}
 use native.Mathlib.Omega.{arith}
 use native.Mathlib.Decide.{ℕ_discrete}
-use lib.ListN.{length, take, drop, length-append, length-drop, take-append-drop}
-use lib.Seq.{take-suc, take_all, take-add, ext_get_or, get_or-take, length-take-le, drop-drop}
-use borrow.Rule.Slice.PartMut.{put_mid}
-use Rattle.std.proofs.lemmas.Slice.{put_mid-paste}
+use lib.ListN.{length, get_or, set, take, drop, length-append, length-drop, take-append-drop}
+use lib.Seq.{take-suc, take_all, take-add, ext_get_or, get_or-take, get_or-drop, length-take-le, drop-drop}
 use Rattle.verdict.specs.Output.{over}
 use Rattle.verdict.proofs.Bools.{decided}
 use Rattle.verdict.proofs.Output.{over_is, over_none, length_over, drop_over, take_over}
@@ -36,16 +34,15 @@ over_put done o vs at e l =
     put_is vs (over done o) at (rw (length_over done o (omega arith)) l)
     ∙ rw (take_over done o at e, drop_over done o at e (length vs)) (over_is (done ++ vs) o (at + length vs) (length-append done vs ∙ omega arith))
 
--- n bytes copied over a part
-pub part_copied : (d e s : List ℕ) (at from n : ℕ) → at + n ≤ length d → from + n ≤ length s → e ≡ take (from + n - from) (drop from s)
-    → put_mid at (at + n - at) d e ≡ put d at (take n (drop from s))
-part_copied d e s at from n l m q =
-    let short : length (take n (drop from s)) ≡ n = length-take-le n (drop from s) (rw (length-drop from s) (omega arith)) in
-    let a : at + n - at ≡ n = omega arith in
-    let f : from + n - from ≡ n = omega arith in
-    rw (a, q, f)
-    (put_mid-paste at n d (take n (drop from s)) (take n (drop from s)) n refl refl (sym short)
-    ∙ sym (put_is (take n (drop from s)) d at (omega (arith, short)) ∙ rw (short, take_all n (take n (drop from s)) (omega (arith, short))) refl))
+-- one byte more of a copy
+pub copied_more : (d : List ℕ) (at : ℕ) (s : List ℕ) (from j : ℕ) (e : List ℕ) → e ≡ put d at (take j (drop from s)) → from + j < length s
+    → set e (at + j) (get_or s (from + j) 0) ≡ put d at (take (j + 1) (drop from s))
+unfolding put
+copied_more d at s from j e h l =
+    let r = drop from s in
+    let short : j < length r = rw (length-drop from s) (omega arith) in
+    rw (h, add-one j, take-suc r j 0 short, get_or-drop from s j 0)
+    (sym (put_append (take j r) (get_or s (from + j) 0 ∷ []) d at ∙ ap (λ (n : ℕ). put (put d at (take j r)) (at + n) (get_or s (from + j) 0 ∷ [])) (length-take-le j r (omega arith))))
 
 pub sum_more : (n : ℕ) {a b : ℕ} → b ≡ a + n → a ≤ b
 sum_more n e = omega arith

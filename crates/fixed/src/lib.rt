@@ -28,8 +28,9 @@ fn copy_part(src: &[u8], from: usize, dst: &mut [u8], at: usize, n: usize)
     requires { (0 < n → from + n ≤ length src.now) × (at + n ≤ length dst.old) }
     ensures { dst.new ≡ put dst.old at (take n (drop from src.now)) }
 {
-    if 0 < n {
-        dst[at..at + n].copy_from_slice(&src[from..from + n]);
+    // Byte by byte, and the machine takes many at once. `copy_from_slice` becomes a call of `memmove`, which the archive would need from outside.
+    for j in 0..n {
+        dst[at + j] = src[from + j];
     }
 }
 

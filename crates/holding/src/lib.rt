@@ -23,7 +23,8 @@ pub fn held_by(journal: &[u8], f: u32, bench: u32) -> u32
 {
     let mut n = 0;
     for i in 0..f {
-        if is_own(journal, i, bench) {
+        let own = is_own(journal, i, bench);
+        if own {
             n += 1;
         }
     }

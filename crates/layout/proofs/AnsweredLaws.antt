@@ -20,6 +20,7 @@ use Rattle.std.specs.declared.result.Result.TheVariants.{Ok, Err}
 use Rattle.verdict.specs.declared.Refused.{Refused}
 use Rattle.verdict.specs.Refusals.{number_of, verdict_of}
 use Rattle.verdict.proofs.Results.{number_positive}
+use Rattle.verdict.proofs.Told.{met_not_refused, refusal_once}
 use Rattle.layout.specs.Grammar.{nothing, fault}
 use Rattle.layout.specs.declared.Layout.{Layout}
 use Rattle.layout.specs.Layout.{grammar, layout_verdict, layout_of}
@@ -125,3 +126,18 @@ pub verdict_told : (s : List ℕ) (v : Result Layout Refused) → told v ≡ lay
 unfolding no_layout
 verdict_told s (Ok r) e = (answered s (told_layout r) e).verdict
 verdict_told s (Err r) e = (answered s (told (Err r)) e).verdict
+
+-- ---- what is told is told of one answer alone
+
+answer_in : Told → Answer
+answer_in t = refused t.number t.place
+
+read_in : Told → Layout
+read_in t = record { rooms = t.rooms; tracks = t.tracks; obstacles = t.obstacles; hooks = t.hooks; starts = t.starts }
+
+pub told_once : (a b : Result Layout Refused) → told a ≡ told b → a ≡ b
+unfolding no_layout answer_in read_in
+told_once (Ok r) (Ok q) e = ap Ok (ap read_in e)
+told_once (Ok r) (Err q) e = met_not_refused q (ap answer_in e)
+told_once (Err r) (Ok q) e = met_not_refused r (sym (ap answer_in e))
+told_once (Err r) (Err q) e = ap Err (refusal_once r q (ap answer_in e))

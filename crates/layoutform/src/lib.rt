@@ -34,7 +34,7 @@ fn renamed(text: &[u8], room: u32, name: &[u8], out: &mut [u8]) -> Result<u32, R
     ensures memory { out.new ≡ form_memory (rename_verdict text.now room name.now (length out.old)) (renamed_form text.now room name.now) out.old }
 {
     let r = layout::read(text)?;
-    rooms::name_verdict(text, r, room, name)?;
+    rooms::name_verdict(text, Ok(r), room, name)?;
     print::write_form(out, text, r, room as usize, name)
 }
 

@@ -7,13 +7,18 @@ use native.Mathlib.Omega.{arith}
 use lib.Dec.{ltb}
 use lib.ListN.{length, get_or}
 use borrow.Author.Tests.{lt-ltb, le-ltb}
+use Rattle.std.specs.declared.result.Result.{Result}
+use Rattle.std.specs.declared.result.Result.TheVariants.{Ok, Err}
+use Rattle.verdict.specs.declared.Answer.{Answer}
+use Rattle.verdict.specs.declared.Refused.{Refused}
 use Rattle.verdict.specs.Verdict.{refused, rule, ◌then◌}
+use Rattle.verdict.proofs.Told.{met_not_refused, refusal_once}
 use Rattle.text.specs.Scan.{words, line_at}
 use Rattle.names.specs.Name.{is_name}
 use Rattle.text.specs.Reading.{Word, nth}
 use Rattle.layout.specs.Grammar.{names_of, known_but}
 use Rattle.layout.specs.Layout.{layout_verdict, layout_of}
-use Rattle.rooms.specs.Rooms.{Rooms, room_names, rooms_of, name_verdict}
+use Rattle.rooms.specs.Rooms.{Rooms, told_rooms, room_names, rooms_of, name_verdict}
 use Rattle.layout.specs.Starts.{held, KeptEntries, kept_name, Told, layout_read}
 use Rattle.layout.proofs.AnsweredLaws.{answered}
 use Rattle.layout.proofs.ApartLaws.{length_names}
@@ -72,3 +77,15 @@ kept_some_name s starts k l u h el eu = eu ∙ rw (lt-ltb k (length starts) h, e
 pub kept_no_name : (s starts : List ℕ) (k : ℕ) → length starts ≤ k → [] ≡ kept_name s starts k
 unfolding kept_name
 kept_no_name s starts k h = rw (le-ltb k (length starts) h)
+
+-- ---- how many rooms there are: what is told is told of one answer alone
+
+answer_in : Rooms → Answer
+answer_in t = refused t.number t.place
+
+pub rooms_once : (a b : Result ℕ Refused) → told_rooms a ≡ told_rooms b → a ≡ b
+unfolding answer_in
+rooms_once (Ok n) (Ok m) e = ap Ok (ap (λ (t : Rooms). t.rooms) e)
+rooms_once (Ok n) (Err q) e = met_not_refused q (ap answer_in e)
+rooms_once (Err r) (Ok m) e = met_not_refused r (sym (ap answer_in e))
+rooms_once (Err r) (Err q) e = ap Err (refusal_once r q (ap answer_in e))

@@ -3,7 +3,7 @@
 
 ghost use Rattle.std.specs.Prelude.{◌≡◌};
 ghost use Rattle.verdict.specs.Refusals.{verdict_of};
-ghost use Rattle.layout.specs.Starts.{kept_name, told_layout, layout_read};
+ghost use Rattle.layout.specs.Starts.{kept_name, told, layout_read};
 ghost use Rattle.rooms.specs.Rooms.{told_rooms, rooms_of, name_verdict};
 
 use layout::Layout;
@@ -11,18 +11,22 @@ use names::is_name;
 use text::{line_at, word};
 use verdict::{Refusal, Refused, Verdict, refuse_if};
 
-// 21, 34 and 37: whether a room of a layout that was read may have a typed name.
-pub fn name_verdict(text: &[u8], r: Layout, room: u32, name: &[u8]) -> Verdict
-    requires { told_layout r ≡ layout_read text.now }
+// 21, 34 and 37: whether a room of a layout, as that was read, may have a typed name. A refused layout has no room.
+pub fn name_verdict(text: &[u8], read: Result<Layout, Refused>, room: u32, name: &[u8]) -> Verdict
+    requires { told read ≡ layout_read text.now }
     ensures { verdict_of result ≡ name_verdict text.now room name.now }
 {
+    let no_room = Refused {
+        refusal: Refusal::NoSuchPlace,
+        place: room,
+    };
+    let Ok(r) = read else {
+        return Err(no_room);
+    };
     let i = room as usize;
     let n = r.rooms;
     if n <= i {
-        return Err(Refused {
-            refusal: Refusal::NoSuchPlace,
-            place: room,
-        });
+        return Err(no_room);
     }
     if !is_name(name) {
         return Err(Refused {

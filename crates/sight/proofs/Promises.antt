@@ -7,10 +7,17 @@ use native.Mathlib.Omega.{arith}
 use lib.Count.{ones}
 use lib.ListN.{length, get_or}
 use lib.Pow.{pow_mono}
+use Rattle.std.specs.declared.result.Result.{Result}
+use Rattle.std.specs.declared.result.Result.TheVariants.{Ok, Err}
+use Rattle.verdict.specs.declared.Answer.{Answer}
+use Rattle.verdict.specs.declared.Refused.{Refused}
 use Rattle.verdict.specs.Lists.{tally}
+use Rattle.verdict.specs.Verdict.{refused}
+use Rattle.verdict.proofs.Told.{met_not_refused, refusal_once}
 use Rattle.rooms.specs.Rooms.{room_names}
 use Rattle.sight.specs.declared.Row.{Row}
 use Rattle.sight.specs.Rows.{sees}
+use Rattle.sight.specs.Code.{told_sight, no_sight}
 use Rattle.sight.specs.Sight.{ToldSight, rows_of, sight_of, row_answer}
 use Rattle.sight.proofs.MarkLaws.{sees_past}
 use Rattle.sight.proofs.LowLaws.{ones_tally}
@@ -19,9 +26,21 @@ use Rattle.sight.proofs.SightLaws.{rows_good, rows_refused, no_room, row_fits}
 
 -- ---- reading
 
+-- the number and the place that are told
+abbrev answer_of : ToldSight → Answer
+answer_of t = refused t.number t.place
+
+-- what is told is told of one answer alone
+pub told_once : (a b : Result (List ℕ) Refused) → told_sight a ≡ told_sight b → a ≡ b
+unfolding no_sight
+told_once (Ok v) (Ok w) e = ap Ok (ap (λ (t : ToldSight). t.rows) e)
+told_once (Ok v) (Err q) e = met_not_refused q (ap answer_of e)
+told_once (Err r) (Ok w) e = met_not_refused r (sym (ap answer_of e))
+told_once (Err r) (Err q) e = ap Err (refusal_once r q (ap answer_of e))
+
 -- two answers that the contract admits are equal
-pub one_sight : (layout s : List ℕ) (a b : ToldSight) → a ≡ sight_of layout s → b ≡ sight_of layout s → a ≡ b
-one_sight layout s a b p q = p ∙ sym q
+pub one_sight : (layout s : List ℕ) (a b : Result (List ℕ) Refused) → told_sight a ≡ sight_of layout s → told_sight b ≡ sight_of layout s → a ≡ b
+one_sight layout s a b p q = told_once a b (p ∙ sym q)
 
 -- ---- a row's answer
 

@@ -2,7 +2,7 @@
 #![tactic(auto)]
 
 ghost use Rattle.std.specs.Prelude.{◌≡◌, ◌+◌, ◌<◌, ◌≤◌, length, get_or};
-ghost use Rattle.layout.specs.Starts.{KeptEntries, told_layout, layout_read};
+ghost use Rattle.layout.specs.Starts.{KeptEntries, told, layout_read};
 ghost use Rattle.sight.specs.Rows.{sees};
 ghost use Rattle.sight.specs.Sight.{grammar, sight_of, row_answer};
 ghost use Rattle.sight.specs.Code.{as_read, told_sight, kept_names};
@@ -70,11 +70,12 @@ fn read_lines(layout: &[u8], starts: &[usize], n: usize, s: &[u8]) -> Result<[u6
     Ok(rows)
 }
 
-// The rows of visibility against a layout that was read.
-pub fn look(layout: &[u8], r: Layout, s: &[u8]) -> Result<[u64; 64], Refused>
-    requires { told_layout r ≡ layout_read layout.now }
+// The rows of visibility against a layout, as that was read: its refusal first.
+pub fn look(layout: &[u8], read: Result<Layout, Refused>, s: &[u8]) -> Result<[u64; 64], Refused>
+    requires { told read ≡ layout_read layout.now }
     ensures { told_sight result ≡ sight_of layout.now s.now }
 {
+    let r = read?;
     text::sound_verdict(s)?;
     let n = r.rooms;
     let starts = r.starts;
@@ -97,8 +98,7 @@ pub fn is_seen(row: u64, j: usize) -> bool
 fn rows_read(layout: &[u8], vis: &[u8]) -> Result<[u64; 64], Refused>
     ensures { told_sight result ≡ sight_of layout.now vis.now }
 {
-    let r = layout::read(layout)?;
-    look(layout, r, vis)
+    look(layout, layout::read(layout), vis)
 }
 
 // The row of room i, 0 where there is none.

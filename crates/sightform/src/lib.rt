@@ -16,7 +16,7 @@ fn rewritten(layout: &[u8], vis: &[u8], out: &mut [u8]) -> Result<u32, Refused>
     ensures memory { out.new ≡ form_memory (sight_rewrite_verdict layout.now vis.now (length out.old)) (rewritten_sight layout.now vis.now) out.old }
 {
     let r = layout::read(layout)?;
-    let rows = sight::look(layout, r, vis)?;
+    let rows = sight::look(layout, Ok(r), vis)?;
     let n = r.rooms;
     let starts = r.starts;
     print::write_form(out, layout, &starts, n, &rows, 64, &layout[..0])
@@ -42,8 +42,8 @@ fn renamed(
     ensures memory { out.new ≡ form_memory (sight_rename_verdict layout.now vis.now room name.now (length out.old)) (renamed_sight layout.now vis.now room name.now) out.old }
 {
     let r = layout::read(layout)?;
-    let rows = sight::look(layout, r, vis)?;
-    rooms::name_verdict(layout, r, room, name)?;
+    let rows = sight::look(layout, Ok(r), vis)?;
+    rooms::name_verdict(layout, Ok(r), room, name)?;
     let n = r.rooms;
     let starts = r.starts;
     print::write_form(out, layout, &starts, n, &rows, room as usize, name)

@@ -10,4 +10,5 @@ pub mod Memory
 pub mod Output
 pub mod Found
 pub mod Results
+pub mod Told
 pub mod Chain

@@ -1,13 +1,12 @@
--- The part written, or nothing. Assumes nothing.
-use Rattle.std.proofs.Common.{refl, arith, ◌≡◌}
+-- A byte more is copied.
+use Rattle.std.proofs.Common.{refl, arith}
 use Rattle.wire.specs.Bytes.{put}
-use Rattle.fixed.proofs.Parted.{part_copied}
+use Rattle.fixed.proofs.Parted.{copied_more}
 use Rattle.fixed.proofs.copy_part.Goals as goal
 
-pub returns-then-n-gt0 : goal.returns-then-n-gt0
-returns-then-n-gt0 c =
-    part_copied c.args.dst.now _ c.args.src.now c.args.at c.args.from c.args.n (omega arith) (omega (arith, c.requires.0 (omega arith))) c.copy_from_slice.ensures.after
-
-pub returns-else-n-gt0 : goal.returns-else-n-gt0
+pub loop-j-init : goal.loop-j-init
 unfolding put
-returns-else-n-gt0 c = let e : c.args.n ≡ 0 = omega arith in rw e refl
+loop-j-init c = refl
+
+pub loop-j-preserved : goal.loop-j-preserved
+loop-j-preserved c = copied_more c.args.dst.now c.args.at c.args.src.now c.args.from c.loop-j.j _ c.loop-j.invariant (omega (arith, c.requires.0 (omega arith)))

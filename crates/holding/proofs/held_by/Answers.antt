@@ -5,7 +5,7 @@ use Rattle.verdict.specs.Lists.{tally}
 use Rattle.record.specs.declared.Rec.{Rec}
 use Rattle.holding.specs.Held.{stored, is_of, held}
 use Rattle.holding.proofs.held_by.Goals as goal
-use Rattle.holding.proofs.held_by.Goals.{then-is_own, else-is_own}
+use Rattle.holding.proofs.held_by.Goals.{then-own, else-own}
 
 module _ (at : ℕ → Rec) (bench i : ℕ) where
   own_counts : is_of bench (at i) ≡ true → held at (i + 1) bench ≡ held at i bench + 1
@@ -26,7 +26,7 @@ loop-i-preserved c =
     let b = c.args.bench in
     let i = c.loop-i.i in
     let so = c.loop-i.invariant in
-    elim c.if-is_own.branch [
-      | then-is_own w ↦ rw w.n-is (omega arith, omega (arith, so.1, own_counts at b i (sym c.is_own.ensures ∙ w.if-is_own.true)))
-      | else-is_own w ↦ rw w.n-is (omega arith, omega (arith, so.1, other_not at b i (sym c.is_own.ensures ∙ w.if-is_own.false)))
+    elim c.if-own.branch [
+      | then-own w ↦ rw w.n-is (omega arith, omega (arith, so.1, own_counts at b i (sym c.is_own-own.ensures ∙ w.if-own.true)))
+      | else-own w ↦ rw w.n-is (omega arith, omega (arith, so.1, other_not at b i (sym c.is_own-own.ensures ∙ w.if-own.false)))
     ]

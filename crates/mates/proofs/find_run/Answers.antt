@@ -10,7 +10,7 @@ use Rattle.mates.specs.Keys.{run_chains, run_chain}
 use Rattle.mates.proofs.find_run.Goals as goal
 
 pub loop-next-init : goal.loop-next-init
-loop-next-init c = run_start run_chains run_chain _ _ _ _ _ c.requires.chained _ _ c.mixed.ensures c.last_of-next.ensures
+loop-next-init c = run_start run_chains run_chain _ _ _ _ _ c.requires.chained _ _ c.mixed.ensures c.last_of-next.ensures.0
 
 pub returns-then-runs_so : goal.returns-then-runs_so
 returns-then-runs_so c = walk_found _ c.loop-next.invariant _ c.in-Some.is (sym c.runs_so.ensures ∙ c.if-runs_so.true)
@@ -25,7 +25,7 @@ stepped : (c : goal.After-before_of-next)
     → Run run_chain (recornered (parts_of c.args.bytes.now)) c.args.a c.args.b c.args.s (one_more c.before_of-next.result)
     × (one_more c.before_of-next.result < one_more c.loop-next.next)
 stepped c =
-    run_step run_chains run_chain _ _ _ _ _ c.requires.chained _ _ _ c.in-Some.is c.loop-next.invariant c.before_of-next.ensures (sym c.runs_so.ensures ∙ c.if-runs_so.false)
+    run_step run_chains run_chain _ _ _ _ _ c.requires.chained _ _ _ c.in-Some.is c.loop-next.invariant c.before_of-next.ensures.0 (sym c.runs_so.ensures ∙ c.if-runs_so.false)
 
 pub loop-next-smaller : goal.loop-next-smaller
 loop-next-smaller c = (stepped c).1

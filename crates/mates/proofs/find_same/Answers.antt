@@ -11,7 +11,7 @@ pub loop-next-init : goal.loop-next-init
 loop-next-init c =
     let s = c.requires in
     let words = vertex_words c.args.bytes.now s.right_header.0 (record { byte = λ i. omega (arith, c.type_inv.bytes i) }) in
-    look_start _ s.right_header.1 words _ s.right_header.2 _ s.chained.1 _ _ c.point_key.ensures c.last_of-next.ensures
+    look_start _ s.right_header.1 words _ s.right_header.2 _ s.chained.1 _ _ c.point_key.ensures c.last_of-next.ensures.0
 
 pub returns-then-is_same : goal.returns-then-is_same
 returns-then-is_same c = walk_found _ c.loop-next.invariant _ c.in-Some.is (sym c.is_same.ensures ∙ c.if-is_same.true)
@@ -27,7 +27,7 @@ stepped : (c : goal.After-before_of-next)
 stepped c =
     let s = c.requires in
     let words = vertex_words c.args.bytes.now s.right_header.0 (record { byte = λ i. omega (arith, c.type_inv.bytes i) }) in
-    look_step _ s.right_header.1 words _ s.right_header.2 _ s.chained.1 _ _ _ c.in-Some.is c.loop-next.invariant c.before_of-next.ensures (sym c.is_same.ensures ∙ c.if-is_same.false)
+    look_step _ s.right_header.1 words _ s.right_header.2 _ s.chained.1 _ _ _ c.in-Some.is c.loop-next.invariant c.before_of-next.ensures.0 (sym c.is_same.ensures ∙ c.if-is_same.false)
 
 pub loop-next-smaller : goal.loop-next-smaller
 loop-next-smaller c = (stepped c).1

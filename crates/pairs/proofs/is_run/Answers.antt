@@ -9,7 +9,7 @@ use Rattle.pairs.proofs.Chains.{Run, run_start, run_step}
 use Rattle.pairs.proofs.is_run.Goals as goal
 
 pub loop-next-init : goal.loop-next-init
-loop-next-init c = run_start chains chain_of _ _ _ _ _ c.requires.chained.1 _ _ c.mixed.ensures c.last_of-next.ensures
+loop-next-init c = run_start chains chain_of _ _ _ _ _ c.requires.chained.1 _ _ c.mixed.ensures c.last_of-next.ensures.0
 
 pub returns-then-runs_so : goal.returns-then-runs_so
 returns-then-runs_so c =
@@ -25,7 +25,7 @@ before_of-next-requires c =
 stepped : (c : goal.After-before_of-next)
     → Run chain_of (parts_of c.args.bytes.now) c.args.a c.args.b c.args.s (one_more c.before_of-next.result) × (one_more c.before_of-next.result < one_more c.loop-next.next)
 stepped c =
-    run_step chains chain_of _ _ _ _ _ c.requires.chained.1 _ _ _ c.in-Some.is c.loop-next.invariant c.before_of-next.ensures (sym c.runs_so.ensures ∙ c.if-runs_so.false)
+    run_step chains chain_of _ _ _ _ _ c.requires.chained.1 _ _ _ c.in-Some.is c.loop-next.invariant c.before_of-next.ensures.0 (sym c.runs_so.ensures ∙ c.if-runs_so.false)
 
 pub loop-next-preserved : goal.loop-next-preserved
 loop-next-preserved c = (stepped c).0
