@@ -6,11 +6,10 @@ use Prim.Native.Nat.{ℕ, ◌≤◌, ◌<◌}
 use native.Mathlib.Omega.{arith}
 use lib.ListN.{length, drop}
 use borrow.Author.Tests.{eq-eqb, ne_eqb, lt-ltb, le-ltb, not-false}
-use Rattle.text.specs.Scan.{words, line_at}
+use Rattle.text.specs.Scan.{words}
 use Rattle.names.specs.Name.{is_name}
 use Rattle.text.specs.Reading.{Word, Line, nth}
 use Rattle.layout.specs.Grammar.{Typed, State, opens, names_in, entry_long, numbers, door_fault, hook_fault, name_fault, open_fault, entry_fault, fault, names_of, doors_of, known, known_but}
-use Rattle.layout.specs.Starts.{entry_at}
 use Rattle.layout.proofs.ApartLaws.{length_names, length_doors}
 use Rattle.layout.proofs.GoodLaws.{first_none}
 use Rattle.layout.proofs.HeldLaws.{known_all}
@@ -100,27 +99,27 @@ module _ (st : State) (l : Line) (m : ℕ) (em : m ≡ length l) (r : Bool) (er 
 
 -- ---- a line
 
-module _ (st : State) (s : List ℕ) (at : ℕ) (l : List ℕ) (el : l ≡ line_at s at) (m : ℕ) (em : m ≡ length (words l)) where
+module _ (st : State) (l : List ℕ) (m : ℕ) (em : m ≡ length (words l)) where
   blank : (ws : Line) → length ws ≡ 0 → 0 ≡ fault st ws
   unfolding fault
   blank [] e = refl
   blank (w ∷ ws) e = absurd (omega arith)
 
-  pub fault_blank : m ≡ 0 → 0 ≡ fault st (entry_at s at)
-  fault_blank z = rw (← el) (blank (words l) (sym em ∙ z))
+  pub fault_blank : m ≡ 0 → 0 ≡ fault st (words l)
+  fault_blank z = blank (words l) (sym em ∙ z)
 
   entry : (ws : Line) (r : ℕ) → (length ws ≡ 0 → ⊥) → 0 < st.left → r ≡ entry_fault st ws → r ≡ fault st ws
   unfolding fault
   entry [] r n h e = absurd (n refl)
   entry (w ∷ ws) r n h e = rw (lt-ltb 0 st.left h) e
 
-  pub fault_entry : (r : ℕ) → (m ≡ 0 → ⊥) → 0 < st.left → r ≡ entry_fault st (words l) → r ≡ fault st (entry_at s at)
-  fault_entry r n h e = rw (← el) (entry (words l) r (λ z. n (em ∙ z)) h e)
+  pub fault_entry : (r : ℕ) → (m ≡ 0 → ⊥) → 0 < st.left → r ≡ entry_fault st (words l) → r ≡ fault st (words l)
+  fault_entry r n h e = entry (words l) r (λ z. n (em ∙ z)) h e
 
   open' : (ws : Line) (u : Word) (k r : ℕ) → (length ws ≡ 0 → ⊥) → st.left ≤ 0 → u ≡ nth ws 0 → k ≡ opens st.sect u → r ≡ open_fault k ws → r ≡ fault st ws
   unfolding fault
   open' [] u k r n h eu ek e = absurd (n refl)
   open' (w ∷ ws) u k r n h eu ek e = let z : opens st.sect w ≡ k = sym (ek ∙ ap (opens st.sect) eu) in rw (le-ltb 0 st.left h, z) e
 
-  pub fault_open : (u : Word) (k r : ℕ) → (m ≡ 0 → ⊥) → st.left ≤ 0 → u ≡ nth (words l) 0 → k ≡ opens st.sect u → r ≡ open_fault k (words l) → r ≡ fault st (entry_at s at)
-  fault_open u k r n h eu ek e = rw (← el) (open' (words l) u k r (λ z. n (em ∙ z)) h eu ek e)
+  pub fault_open : (u : Word) (k r : ℕ) → (m ≡ 0 → ⊥) → st.left ≤ 0 → u ≡ nth (words l) 0 → k ≡ opens st.sect u → r ≡ open_fault k (words l) → r ≡ fault st (words l)
+  fault_open u k r n h eu ek e = open' (words l) u k r (λ z. n (em ∙ z)) h eu ek e

@@ -7,7 +7,7 @@ ghost use Rattle.layout.specs.Grammar.{names_in, names_of, known_but};
 ghost use Rattle.layout.specs.Layout.{grammar};
 ghost use Rattle.layout.specs.Starts.{held, KeptEntries, told, Found, layout_read};
 
-use text::{line_at, line_end};
+use text::line_at;
 use verdict::{Refusal, Refused};
 
 mod lines;
@@ -54,7 +54,8 @@ fn read_lines(s: &[u8]) -> Result<Layout, Refused>
     let mut passed: usize = 0;
     // A walk by lines stays a `while`: an iterator over lines would be a struct of our own, no plainer than this.
     while at < s.len() {
-        let fault = lines::line_fault(s, &starts, st, at);
+        let l = line_at(s, at);
+        let fault = lines::line_fault(s, &starts, st, l);
         passed += 1;
         if let Err(refusal) = fault {
             return Err(Refused {
@@ -63,8 +64,8 @@ fn read_lines(s: &[u8]) -> Result<Layout, Refused>
             });
         }
         lines::keep(&mut starts, st, at);
-        st = lines::moved(st, line_at(s, at));
-        at = line_end(s, at) + 1;
+        st = lines::moved(st, l);
+        at += l.len() + 1;
     }
     if st.sect != 6 {
         return Err(Refused {

@@ -204,12 +204,11 @@ pub(crate) fn entry_fault(s: &[u8], starts: &[usize], st: Progress, l: &[u8]) ->
     Ok(())
 }
 
-// What is wrong with the line that starts at a place; nothing if it is blank.
-pub(crate) fn line_fault(s: &[u8], starts: &[usize], st: Progress, at: usize) -> Result<(), Refusal>
+// What is wrong with a line; nothing if it is blank.
+pub(crate) fn line_fault(s: &[u8], starts: &[usize], st: Progress, l: &[u8]) -> Result<(), Refusal>
     requires { KeptSoFar s.now starts.now st }
-    ensures { fault_of result ≡ fault (state_of s.now starts.now st) (entry_at s.now at) }
+    ensures { fault_of result ≡ fault (state_of s.now starts.now st) (words l.now) }
 {
-    let l = line_at(s, at);
     if word_count(l) == 0 {
         return Ok(());
     }

@@ -236,8 +236,10 @@ pub fn corners_verdict(bytes: &[u8], work: &mut [u8]) -> Verdict
 {
     map_vertices(bytes, work);
     let faces = tables::count_of(bytes, 1);
-    refuse_at(first_pinched(bytes, work, faces), Refusal::Corner)?;
-    refuse_at(first_repeat(bytes, work), Refusal::RunsTwice)?;
+    let pinched = first_pinched(bytes, work, faces);
+    refuse_at(pinched, Refusal::Corner)?;
+    let repeat = first_repeat(bytes, work);
+    refuse_at(repeat, Refusal::RunsTwice)?;
     put_mates(bytes, work);
     Ok(())
 }

@@ -13,7 +13,7 @@ returns-in_err-r c =
     rw (p.1, p.2) (rooms_told _ _ c.in_err-r.ensures)
 
 pub overflow_cast-result : goal.overflow_cast-result
-overflow_cast-result c = omega (arith, (answered _ (told_layout c.in_ok-r.r) c.in_ok-r.ensures).held.few_rooms)
+overflow_cast-result c = omega (arith, (answered _ (told_layout c.in_ok-r.r) c.in_ok-r.ensures).held)
 
 pub returns : goal.returns
 returns c = rooms_told _ (told_layout c.in_ok-r.r) c.in_ok-r.ensures
