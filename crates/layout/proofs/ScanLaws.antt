@@ -1,5 +1,5 @@
 -- A text's lines from a place on, read one after the other. Assumes nothing.
-use mathlib.Core.Path.{◌≡◌, refl, sym, ◌∙◌}
+use mathlib.Core.Path.{◌≡◌, refl, sym, ap, ◌∙◌}
 use mathlib.Core.List.{List, ◌∷◌}
 use Prim.Native.Nat.{ℕ, ◌+◌, ◌≤◌, ◌<◌}
 use native.Mathlib.Omega.{arith}
@@ -10,7 +10,7 @@ use Rattle.verdict.specs.Verdict.{accepted}
 use Rattle.verdict.proofs.Bools.{test}
 use Rattle.letters.specs.Class.{is_end}
 use Rattle.text.specs.Scan.{run, apart, words, lines, line_at}
-use Rattle.text.proofs.SplitLaws.{line_step, line_none, line_long}
+use Rattle.text.proofs.SplitLaws.{line_step, line_none, line_long, piece_within}
 use Rattle.text.proofs.ReadingLaws.{Standing, standing, stand_next, stand_stop, stand_end}
 use Rattle.layout.specs.declared.Progress.{Progress}
 use Rattle.layout.specs.Grammar.{nothing, State, start, Reading, stopped, fault, finish, layout_grammar}
@@ -100,6 +100,13 @@ starts_done : (s starts : List ℕ) (c : Progress) (at : ℕ) → starts_of s �
 starts_done s starts c at i h = i ∙ rw (line_none s at h) (unfold starts_from in refl)
 
 -- ---- the lines from a place on
+
+-- where the line in hand ends
+pub line_ends : (s l : List ℕ) (at : ℕ) → l ≡ line_at s at → at + length l ≡ at + run (apart is_end) (drop at s)
+line_ends s l at e = ap (λ (k : ℕ). at + k) (ap length e ∙ line_long s at)
+
+pub line_inside : (s l : List ℕ) (at : ℕ) → l ≡ line_at s at → at < length s → at + length l ≤ length s
+line_inside s l at e h = (piece_within is_end s at (at + length l) (line_ends s l at e) (omega (arith, h))).1
 
 -- where the reader stands: what is left of the lines, of the grammar and of the starts; and what it keeps stands for a good state
 pub record Reader (s starts : List ℕ) (c : Progress) (passed at : ℕ) : Type 0 where

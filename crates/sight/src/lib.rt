@@ -8,7 +8,7 @@ ghost use Rattle.sight.specs.Sight.{grammar, sight_of, row_answer};
 ghost use Rattle.sight.specs.Code.{as_read, told_sight, kept_names};
 
 use layout::Layout;
-use text::{line_at, line_end};
+use text::line_at;
 use verdict::{Refusal, Refused};
 
 mod lines;
@@ -48,7 +48,8 @@ fn read_lines(layout: &[u8], starts: &[usize], n: usize, s: &[u8]) -> Result<[u6
     let mut passed: usize = 0;
     // A walk by lines stays a `while`: an iterator over lines would be a struct of our own, no plainer than this.
     while at < s.len() {
-        let turned = lines::turn(layout, starts, n, &mut rows, st, line_at(s, at));
+        let l = line_at(s, at);
+        let turned = lines::turn(layout, starts, n, &mut rows, st, l);
         passed += 1;
         match turned {
             Ok(next) => st = next,
@@ -59,7 +60,7 @@ fn read_lines(layout: &[u8], starts: &[usize], n: usize, s: &[u8]) -> Result<[u6
                 });
             }
         }
-        at = line_end(s, at) + 1;
+        at += l.len() + 1;
     }
     if st.left != 0 {
         return Err(Refused {

@@ -1,22 +1,13 @@
 -- Each line in turn, up to the first that has a fault; a line ends within the text.
-use Rattle.std.proofs.Common.{arith, refl, ap, subst, ◌∙◌, ◌≡◌, ◌+◌, ◌<◌, ◌≤◌, ℕ, List, length, drop}
-use Rattle.letters.specs.Class.{is_end}
+use Rattle.std.proofs.Common.{arith, refl, ap, subst, ◌∙◌, ◌≡◌, ◌+◌, ℕ, List}
 use Rattle.verdict.proofs.Results.{number_positive}
-use Rattle.text.specs.Scan.{run, apart, words, line_at}
-use Rattle.text.proofs.SplitLaws.{piece_within, line_long}
+use Rattle.text.specs.Scan.{words, line_at}
 use Rattle.layout.specs.Grammar.{State, fault}
 use Rattle.layout.proofs.StepLaws.{slot_inside}
-use Rattle.layout.proofs.ScanLaws.{Reader, reader, kept_so_far, turn_stops, turn_more, ends_early, ends_right}
+use Rattle.layout.proofs.ScanLaws.{Reader, reader, line_ends, line_inside, kept_so_far, turn_stops, turn_more, ends_early, ends_right}
 use Rattle.layout.proofs.read_lines.Goals as goal
 
--- where the line in hand ends
-ends : (s l : List ℕ) (at : ℕ) → l ≡ line_at s at → at + length l ≡ at + run (apart is_end) (drop at s)
-ends s l at e = ap (λ (k : ℕ). at + k) (ap length e ∙ line_long s at)
-
-inside : (s l : List ℕ) (at : ℕ) → l ≡ line_at s at → at < length s → at + length l ≤ length s
-inside s l at e h = (piece_within is_end s at (at + length l) (ends s l at e) (omega (arith, h))).1
-
--- what is wrong with it is what is wrong with the line that starts there
+-- what is wrong with the line in hand is what is wrong with the line that starts there
 there : (n : ℕ) (st : State) (s l : List ℕ) (at : ℕ) → l ≡ line_at s at → n ≡ fault st (words l) → n ≡ fault st (words (line_at s at))
 there n st s l at e f = f ∙ ap (λ (z : List ℕ). fault st (words z)) e
 
@@ -34,16 +25,16 @@ pub keep-requires : goal.keep-requires
 keep-requires c = let v = c.loop-at.invariant in (v.fits, slot_inside _ _ _ v.sized v.fits v.good)
 
 pub overflow_add-at : goal.overflow_add-at
-overflow_add-at c = omega (arith, inside _ _ _ c.line_at-l.ensures c.loop-at-test.true)
+overflow_add-at c = omega (arith, line_inside _ _ _ c.line_at-l.ensures c.loop-at-test.true)
 
 pub loop-at-smaller : goal.loop-at-smaller
-loop-at-smaller c = omega (arith, inside _ _ _ c.line_at-l.ensures c.loop-at-test.true)
+loop-at-smaller c = omega (arith, line_inside _ _ _ c.line_at-l.ensures c.loop-at-test.true)
 
 pub loop-at-preserved : goal.loop-at-preserved
 loop-at-preserved c =
     let l = c.line_at-l.ensures in
     let met = there _ _ _ _ _ l c.in_default.ensures in
-    let next = turn_more _ _ _ _ _ _ c.loop-at.invariant c.loop-at-test.true met _ _ _ _ refl c.keep.ensures l c.moved-st.ensures (ends _ _ _ l) in
+    let next = turn_more _ _ _ _ _ _ c.loop-at.invariant c.loop-at-test.true met _ _ _ _ refl c.keep.ensures l c.moved-st.ensures (line_ends _ _ _ l) in
     subst (λ (k : ℕ). Reader c.args.s.now c.keep.new.starts c.moved-st.result (c.loop-at.passed + 1) k) (omega arith) next
 
 pub returns-then-st-ne6 : goal.returns-then-st-ne6
